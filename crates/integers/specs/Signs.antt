@@ -1,0 +1,122 @@
+-- Signs: an integer is its sign and its size; what a test of the sign or of an order tells; toward zero by k units.
+use mathlib.Core.Path.{_≡_, refl, sym, ap, _∙_, subst}
+use mathlib.Core.Bool.{Bool, true, false, not}
+use Prim.Native.Nat.{ℕ, zero, suc, _+_, _-_, _≤_, _<_}
+use native.Mathlib.Omega.{arith}
+use lib.Dec.{T}
+use lib.IntN.{ℤ, pos, negsuc, negℤ, natAbs, _+ℤ_, _-ℤ_}
+use lib.Signed.{ltZ, _≤ℤ_, _<ℤ_, ltZ-no}
+use Rattle.integers.specs.Sides.{up, dn, lt-nat, le-sides}
+use Rattle.integers.specs.Linear.{zlin}
+use Rattle.integers.specs.Sizes.{natAbs-neg}
+
+-- ---- the sign
+abbrev pub isNegative : ℤ → Bool
+isNegative (pos n) = false
+isNegative (negsuc n) = true
+
+-- rules for omega, of a test that was made
+pub neg-yes : (x : ℤ) → isNegative x ≡ true → up x < dn x
+neg-yes (pos n) e = absurd (subst (λ (b : Bool). T (not b)) e tt)
+neg-yes (negsuc n) e = omega arith
+
+pub neg-no : (x : ℤ) → isNegative x ≡ false → dn x ≤ up x
+neg-no (pos n) e = omega arith
+neg-no (negsuc n) e = absurd (subst T e tt)
+
+-- and the other way
+pub yes-neg : (x : ℤ) → up x < dn x → isNegative x ≡ true
+yes-neg (pos n) h = absurd (omega arith)
+yes-neg (negsuc n) h = refl
+
+pub no-neg : (x : ℤ) → dn x ≤ up x → isNegative x ≡ false
+no-neg (pos n) h = refl
+no-neg (negsuc n) h = absurd (omega arith)
+
+-- ---- a comparison: `ltZ x y` is the value of the code's `x < y`
+pub below-yes : (x y : ℤ) → ltZ x y ≡ true → up x + dn y < up y + dn x
+below-yes x y e = lt-nat x y (subst T (sym e) tt)
+
+pub below-no : (x y : ℤ) → ltZ x y ≡ false → up y + dn x ≤ up x + dn y
+below-no x y e = le-sides y x (ltZ-no (subst (λ (b : Bool). T (not b)) (sym e) tt))
+
+is-true : (t : Bool) → T t → t ≡ true
+is-true true h = refl
+is-true false h = absurd h
+
+is-false : (t : Bool) → (T t → ⊥) → t ≡ false
+is-false true h = absurd (h tt)
+is-false false h = refl
+
+pub yes-below : (x y : ℤ) → x <ℤ y → ltZ x y ≡ true
+yes-below x y h = is-true (ltZ x y) (h .lt)
+
+pub no-below : (x y : ℤ) → y ≤ℤ x → ltZ x y ≡ false
+no-below x y h = is-false (ltZ x y) (λ t. absurd (omega (arith, lt-nat x y t, le-sides y x h)))
+
+-- the integer with a sign and a size
+abbrev pub signed : Bool → ℕ → ℤ
+signed true n = negℤ (pos n)
+signed false n = pos n
+
+pub natAbs-signed : (b : Bool) (n : ℕ) → natAbs (signed b n) ≡ n
+natAbs-signed true n = natAbs-neg (pos n)
+natAbs-signed false n = refl
+
+pub signed-abs : (x : ℤ) → signed (isNegative x) (natAbs x) ≡ x
+signed-abs (pos a) = refl
+signed-abs (negsuc a) = refl
+
+pub signed-zero : (b : Bool) → signed b 0 ≡ pos 0
+signed-zero true = refl
+signed-zero false = refl
+
+pub signed-diff : (b : Bool) (n k : ℕ) → k ≤ n → signed b (n - k) ≡ signed b n -ℤ signed b k
+signed-diff true n k h = simp zlin (omega arith)
+signed-diff false n k h = simp zlin (omega arith)
+
+pub signed-sum : (b : Bool) (n k : ℕ) → signed b (n + k) ≡ signed b n +ℤ signed b k
+signed-sum true n k = simp zlin (omega arith)
+signed-sum false n k = refl
+
+pub signed-not : (b : Bool) (n : ℕ) → signed (not b) n ≡ negℤ (signed b n)
+signed-not true n = simp zlin (omega arith)
+signed-not false n = refl
+
+-- the sign of what is not 0
+pub isNegative-signed : (b : Bool) (n : ℕ) → 0 < n → isNegative (signed b n) ≡ b
+isNegative-signed true zero h = absurd (omega arith)
+isNegative-signed true (suc n) h = refl
+isNegative-signed false n h = refl
+
+-- ---- toward 0 by k units
+abbrev pub towardZero : ℤ → ℕ → ℤ
+towardZero x k = signed (isNegative x) (natAbs x - k)
+
+pub towardZero-size : (x : ℤ) (k : ℕ) → natAbs (towardZero x k) ≡ natAbs x - k
+towardZero-size x k = natAbs-signed (isNegative x) (natAbs x - k)
+
+pub towardZero-all : (x : ℤ) (k : ℕ) → natAbs x ≤ k → towardZero x k ≡ pos 0
+towardZero-all x k h = let e : natAbs x - k ≡ 0 = omega arith in rw e (signed-zero (isNegative x))
+
+pub towardZero-none : (x : ℤ) → towardZero x 0 ≡ x
+towardZero-none x = let e : natAbs x - 0 ≡ natAbs x = omega arith in rw e (signed-abs x)
+
+pub towardZero-diff : (x : ℤ) (k : ℕ) → k ≤ natAbs x → towardZero x k ≡ x -ℤ signed (isNegative x) k
+towardZero-diff x k h = signed-diff (isNegative x) (natAbs x) k h ∙ ap (λ (z : ℤ). z -ℤ signed (isNegative x) k) (signed-abs x)
+
+pub towardZero-sign : (x : ℤ) (k : ℕ) → k < natAbs x → isNegative (towardZero x k) ≡ isNegative x
+towardZero-sign x k h = isNegative-signed (isNegative x) (natAbs x - k) (omega arith)
+
+pub towardZero-twice : (x : ℤ) (j k : ℕ) → j < natAbs x → towardZero (towardZero x j) k ≡ towardZero x (j + k)
+towardZero-twice x j k h =
+    let e : natAbs x - j - k ≡ natAbs x - (j + k) = omega arith in
+    rw (towardZero-sign x j h, towardZero-size x j, e)
+
+-- two integers of opposite signs, each taken toward 0 by k: their sum stays
+pub towardZero-pair : (x y : ℤ) (k : ℕ) → isNegative y ≡ not (isNegative x) → k ≤ natAbs x → k ≤ natAbs y → towardZero x k +ℤ towardZero y k ≡ x +ℤ y
+towardZero-pair x y k o h j =
+    let e = towardZero-diff x k h in
+    let f = towardZero-diff y k j in
+    let g : signed (isNegative y) k ≡ negℤ (signed (isNegative x) k) = ap (λ (b : Bool). signed b k) o ∙ signed-not (isNegative x) k in
+    simp zlin (omega (arith, simp zlin at e, simp zlin at f, simp zlin at g))

@@ -1,0 +1,37 @@
+-- `numbers_run::show_sums` meets its contract: the loop ends. Assumes nothing.
+use borrow.Author.Needs.{needs}
+use Prim.Native.Nat.{_≤_, _-_}
+use Rattle.numbers_run.proofs.show_sums.Statement.{statement}
+use Rattle.numbers_run.proofs.show_sums.Tie as tie
+
+abbrev Inv-loop : tie.InvT-loop
+Inv-loop i₀ i = i ≤ 160
+
+abbrev μ-loop : tie.MeasureT-loop
+μ-loop i₀ i = 160 - i
+
+loop-holds : tie.Need-loop-holds Inv-loop μ-loop
+loop-holds c = search needs
+
+mul-show-sum : tie.Need-mul-show-sum Inv-loop μ-loop
+mul-show-sum c = search needs
+
+show-sum-requires : tie.Need-show-sum-requires Inv-loop μ-loop
+show-sum-requires c κs = search needs
+
+add-i : tie.Need-add-i Inv-loop μ-loop
+add-i c = search needs
+
+loop-less : tie.Need-loop-less Inv-loop μ-loop
+loop-less c = search needs
+
+loop-again : tie.Need-loop-again Inv-loop μ-loop
+loop-again c = search needs
+
+returns : tie.Need-returns Inv-loop μ-loop
+returns c = search needs
+
+pub show-sums-spec : {M : Type 1} → statement M
+show-sums-spec =
+    tie.close
+    (tie.spec Inv-loop μ-loop loop-holds mul-show-sum show-sum-requires add-i loop-less loop-again returns)

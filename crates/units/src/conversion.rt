@@ -1,0 +1,34 @@
+// What a sum of marks counts in the base currency (document 01, "Marks"). The haircut is taken before the
+// rate: a favourable sum with the whole haircut counts 0, however large it is.
+use crate::Mils;
+use exact::Rounded;
+ghost use mathlib.Core.Path.{_≡_};
+ghost use lib.IntN.{ℤ};
+ghost use Rattle.exact.specs.Rounding.{capped};
+ghost use Rattle.units.specs.Units.{milsOf};
+ghost use Rattle.units.specs.Conversion.{favourableOf, unfavourableOf};
+ghost use Rattle.units.specs.ConversionLaws.{Terms};
+
+pub fn favourable(sum: Mils, rate: u64, haircut: u64) -> Rounded
+    requires { ⌜ Terms rate haircut ⌝ }
+    ensures { λ r. ⌜ r ≡ capped (favourableOf (milsOf sum) rate haircut) ⌝ }
+{
+    if sum.is_negative() {
+        return Rounded::To(0);
+    }
+    let g = 10_000 - haircut;
+    let f = g * rate;
+    exact::scaled_down(sum.size(), f, 10_000_000_000)
+}
+
+pub fn unfavourable(sum: Mils, rate: u64, haircut: u64) -> Rounded
+    requires { ⌜ Terms rate haircut ⌝ }
+    ensures { λ r. ⌜ r ≡ capped (unfavourableOf (milsOf sum) rate haircut) ⌝ }
+{
+    if sum.is_negative() {
+        let g = 10_000 + haircut;
+        let f = g * rate;
+        return exact::scaled_up(sum.size(), f, 10_000_000_000);
+    }
+    Rounded::To(0)
+}

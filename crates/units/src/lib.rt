@@ -1,0 +1,23 @@
+// Shares, money in mils and prices in mils per share (document 01, "What the book covers"): a type each,
+// so that shares handed over where money is due do not compile. What they count is a `Whole`, a signed number.
+mod conversion;
+mod money;
+mod number;
+mod parts;
+mod stock;
+
+pub use conversion::favourable;
+pub use conversion::unfavourable;
+pub use parts::part;
+
+// A signed whole number.
+pub struct Whole(pub i64);
+
+// Shares: above zero the account receives them, below zero it delivers them.
+pub struct Shares(pub Whole);
+
+// Money in mils, thousandths of a currency unit: above zero the account pays it, below zero it receives it.
+pub struct Mils(pub Whole);
+
+// A price in mils per share.
+pub struct Price(pub u32);
