@@ -1,0 +1,118 @@
+-- The sheet (document 01, "Call file and sheet"): the text of a line, the lines of a file, and the writing of a line with its tally.
+use mathlib.Core.Bool.{Bool, cond, _&&_}
+use mathlib.Core.List.{List, [], _∷_, _++_, map}
+use mathlib.Core.Option.{Option, some, none}
+use Prim.Native.Nat.{ℕ, zero, suc, _+_, _/_, _%_}
+use lib.Dec.{eqb, leb, ltb}
+use lib.ListN.{length, drop}
+use lib.IntN.{ℤ, pos, negsuc}
+use Rattle.units.specs.Units.{sharesOf, milsOf, mils}
+use Rattle.rules.specs.Words.{each, text}
+use Rattle.rules.specs.Bounds.{everyAccount, everyCurrency, mostTally}
+use Rattle.rules.specs.Book.{isZero, accountOf, securityOf, openOf, chargeOf}
+use Rattle.rules.specs.Calls.{Call, answer}
+use Rattle.rules.specs.CallFile.{contentsOf, Played, playedFrom, tooLong}
+use Rattle.rules.specs.declared.Position.{Position}
+use Rattle.rules.specs.declared.Book.{Book}
+use Rattle.rules.specs.declared.Tally.{Tally}
+use Rattle.rules.specs.declared.Line.{Line}
+use Rattle.rules.specs.declared.Line.the-variants.{Refusal, Place, Day, Open, Charge, End}
+
+-- ── the text of a line ──
+
+-- Digits come most significant first, no leading zeros: a number below ten is one digit, any other is that of n / 10 and then n % 10.
+-- (f bounds the digits.)
+unfoldable pub digitsBy : ℕ → ℕ → List ℕ
+digitsBy zero n = (48 + n) ∷ []
+digitsBy (suc f) n = let more = digitsBy f (n / 10) ++ ((48 + n % 10) ∷ []) in cond (ltb n 10) ((48 + n) ∷ []) more
+
+unfoldable pub decimal : ℕ → List ℕ
+decimal n = digitsBy n n
+
+-- Minus for negatives.
+unfoldable pub signedDecimal : ℤ → List ℕ
+signedDecimal (pos n) = decimal n
+signedDecimal (negsuc n) = text "-" ++ decimal (suc n)
+
+-- One space between, newline after each.
+unfoldable pub spaced : List (List ℕ) → List ℕ
+spaced [] = text "\n"
+spaced (w ∷ ws) = text " " ++ (w ++ spaced ws)
+
+-- R record index, refusal; X place; DAY day; P number account security quantity money; C account currency charge; E lines
+unfoldable pub textOf : Line → List ℕ
+textOf (Refusal i n) = text "R" ++ spaced (decimal i ∷ decimal n ∷ [])
+textOf (Place place) = text "X" ++ spaced (decimal place ∷ [])
+textOf (Day d) = text "DAY" ++ spaced (decimal d ∷ [])
+textOf (Open n a s q m) = text "P" ++ spaced (decimal n ∷ decimal a ∷ decimal s ∷ signedDecimal (sharesOf q) ∷ signedDecimal (milsOf m) ∷ [])
+textOf (Charge a c m) = text "C" ++ spaced (decimal a ∷ decimal c ∷ signedDecimal (milsOf m) ∷ [])
+textOf (End n) = text "E" ++ spaced (decimal n ∷ [])
+
+-- ── the lines of a sheet ──
+
+-- For each refused call, R record index from 0, refusal;
+unfoldable pub refusalLines : ℕ → List ℕ → List Line
+refusalLines i [] = []
+refusalLines i (n ∷ ns) = let rest = refusalLines (suc i) ns in cond (eqb n 0) rest (Refusal i n ∷ rest)
+
+-- for 19, X place;
+unfoldable pub placeLines : Option ℕ → List Line
+placeLines none = []
+placeLines (some place) = Place place ∷ []
+
+-- P by number;
+unfoldable pub openLine : Position → Line
+openLine p = Open (p .number) (accountOf p) (securityOf p) (p .quantity) (p .money)
+
+-- C by account then currency, zero charges omitted;
+unfoldable pub chargeLine : Book → ℕ → ℕ → List Line
+chargeLine k a c = cond (isZero (chargeOf k a c)) [] (Charge a c (mils (chargeOf k a c)) ∷ [])
+
+unfoldable pub chargeLines : Book → List Line
+chargeLines k = each (λ a. each (chargeLine k a) everyCurrency) everyAccount
+
+-- if a book exists, DAY, P, C;
+unfoldable pub bookLines : Option Book → List Line
+bookLines none = []
+bookLines (some k) = Day (k .day) ∷ (map openLine (openOf k) ++ chargeLines k)
+
+-- last in every sheet E and the lines above it.
+unfoldable pub ended : List Line → List Line
+ended ls = ls ++ (End (length ls) ∷ [])
+
+unfoldable pub linesOf : Played → Option ℕ → List Line
+linesOf f place = ended (refusalLines 0 (f .answers) ++ (placeLines place ++ bookLines (f .book)))
+
+-- A file refused by 18 gives R 0 18 and E 1.
+unfoldable pub refusedSheet : List Line
+refusedSheet = ended (Refusal 0 18 ∷ [])
+
+-- the sheet of a call file, by whatever function answers its calls
+unfoldable pub sheetBy : (Book → Call → ℕ) → List ℕ → List ℕ
+sheetBy answers file =
+    let lines = linesOf (playedFrom answers (contentsOf file .codes) (contentsOf file .calls)) (contentsOf file .place) in
+    each textOf (cond (tooLong file) refusedSheet lines)
+
+-- The sheet of a call file.
+unfoldable pub sheetOf : List ℕ → List ℕ
+sheetOf file = sheetBy answer file
+
+-- ── a line is written into a lent buffer, with a tally of lines and bytes ──
+
+-- 18: the line doesn't fit; neither lines nor bytes pass 1,000,000
+unfoldable pub lineAnswer : ℕ → Line → Tally → ℕ
+lineAnswer room l t =
+    cond (leb (length (textOf l)) room && (leb (t .lines + 1) mostTally && leb (t .bytes + length (textOf l)) mostTally)) 0 18
+
+-- The written part is handed back, an empty one where refused;
+unfoldable pub linePart : List ℕ → Line → Tally → List ℕ
+linePart buffer l t = cond (eqb (lineAnswer (length buffer) l t) 0) (textOf l) []
+
+-- bytes beyond it stay.
+unfoldable pub lineBytes : List ℕ → Line → Tally → List ℕ
+lineBytes buffer l t = let part = linePart buffer l t in part ++ drop (length part) buffer
+
+-- The tally is moved on by every line.
+unfoldable pub lineTally : ℕ → Line → Tally → Tally
+lineTally room l t =
+    cond (eqb (lineAnswer room l t) 0) (record { lines = t .lines + 1; bytes = t .bytes + length (textOf l) }) t
