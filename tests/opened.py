@@ -6,7 +6,7 @@ added, renamed or removed: python3 tests/opened.py
 """
 import re
 
-RULES = ["Words", "Bounds", "Book", "Layout", "Trades", "Sound", "Nets", "Parts", "Roll", "Run", "Prices", "Marks", "Calls", "CallFile", "Sheet", "Written"]
+RULES = ["Words", "Bounds", "Book", "Layout", "Trades", "Sound", "Nets", "Parts", "Roll", "Run", "Prices", "Marks", "Calls", "Records", "CallFile", "Sheet", "Written"]
 BELOW = [("integers", ["Bits"]), ("fields", ["Field", "Codec"]), ("units", ["Part", "Conversion"])]
 
 

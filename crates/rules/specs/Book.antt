@@ -50,7 +50,7 @@ unfoldable pub openOf : Book → List Position
 openOf k = take (k .records) (k .positions)
 
 unfoldable pub listOf : Book → List Trade
-listOf k = take (k .listed) (k .trades)
+listOf k = take (k .entries) (k .trades)
 
 -- the book with other open positions, another list, other holdings, other charges, another day
 unfoldable pub withOpen : Book → List Position → Book
@@ -62,7 +62,7 @@ withOpen k ps =
       positions = ps ++ replicate (mostRecords - length ps) noPosition;
       holdings = k .holdings;
       charges = k .charges;
-      listed = k .listed;
+      entries = k .entries;
       trades = k .trades;
     }
 
@@ -75,7 +75,7 @@ withList k ts =
       positions = k .positions;
       holdings = k .holdings;
       charges = k .charges;
-      listed = length ts;
+      entries = length ts;
       trades = ts ++ replicate (mostTrades - length ts) noTrade;
     }
 
@@ -88,7 +88,7 @@ withHoldings k hs =
       positions = k .positions;
       holdings = hs;
       charges = k .charges;
-      listed = k .listed;
+      entries = k .entries;
       trades = k .trades;
     }
 
@@ -101,7 +101,7 @@ withCharges k cs =
       positions = k .positions;
       holdings = k .holdings;
       charges = cs;
-      listed = k .listed;
+      entries = k .entries;
       trades = k .trades;
     }
 
@@ -114,7 +114,7 @@ withDay k d =
       positions = k .positions;
       holdings = k .holdings;
       charges = k .charges;
-      listed = k .listed;
+      entries = k .entries;
       trades = k .trades;
     }
 
@@ -128,18 +128,18 @@ unfoldable pub unlisted : Book → ℕ → Bool
 unlisted k s = eqb (currencyOf k s) noCurrency
 
 -- holdings are kept account by account, 32 entries each
-unfoldable pub slot : ℕ → ℕ → ℕ
-slot account security = account * 32 + security
+unfoldable pub holdingAt : ℕ → ℕ → ℕ
+holdingAt account security = account * 32 + security
 
 unfoldable pub heldBy : Book → ℕ → ℕ → ℕ
-heldBy k account security = getD (k .holdings) (slot account security) 0
+heldBy k account security = getD (k .holdings) (holdingAt account security) 0
 
 -- charges are kept account by account, 4 entries each
-unfoldable pub purse : ℕ → ℕ → ℕ
-purse account currency = account * 4 + currency
+unfoldable pub chargeAt : ℕ → ℕ → ℕ
+chargeAt account currency = account * 4 + currency
 
 unfoldable pub chargeOf : Book → ℕ → ℕ → ℤ
-chargeOf k account currency = milsOf (getD (k .charges) (purse account currency) (mils (pos 0)))
+chargeOf k account currency = milsOf (getD (k .charges) (chargeAt account currency) (mils (pos 0)))
 
 -- the charges with an amount more at one place
 unfoldable pub charged : List Mils → ℕ → ℤ → List Mils
@@ -155,6 +155,6 @@ emptyBook codes =
       positions = replicate mostRecords noPosition;
       holdings = replicate (accounts * securities) 0;
       charges = replicate (accounts * currencies) (mils (pos 0));
-      listed = 0;
+      entries = 0;
       trades = replicate mostTrades noTrade;
     }

@@ -3,15 +3,17 @@
 use mathlib.Core.Bool.{Bool, cond, not, _||_}
 use mathlib.Core.List.{List, [], _∷_}
 use Prim.Native.Nat.{ℕ, _+_, _-_}
-use lib.Dec.{eqb, leb, ltb}
+use lib.Dec.{eqb, leb}
 use lib.ListN.{length, set}
-use Rattle.rules.specs.Words.{all, Test, refuse, first}
+use lib.IntN.{ℤ, pos}
+use Rattle.units.specs.Units.{sharesOf, shares}
+use Rattle.rules.specs.Words.{all, above, outside, Test, first}
 use Rattle.rules.specs.Bounds.{securities, lastDay, mostRecords, mostTrades, mostHeld}
-use Rattle.rules.specs.Book.{listOf, withList, withHoldings, heldBy, slot, emptyBook}
+use Rattle.rules.specs.Book.{listOf, withList, withHoldings, heldBy, holdingAt, emptyBook}
 use Rattle.rules.specs.Layout.{bookLength, bookOf, bytesOf}
-use Rattle.rules.specs.Sound.{sound, isCode, totalHeld}
+use Rattle.rules.specs.Sound.{sound, notSound, isCode, totalHeld}
 use Rattle.rules.specs.Trades.{used, stands, entered, amended, excluded, noAccount, badAccounts, badSecurity, badQuantity, badPrice, sameAccount}
-use Rattle.rules.specs.Roll.{rolled, wouldBeOpen}
+use Rattle.rules.specs.Roll.{rolled, openPlusNets}
 use Rattle.rules.specs.Run.{deliverable, wanted, sharesMoved, settled}
 use Rattle.rules.specs.declared.Trade.{Trade}
 use Rattle.rules.specs.declared.Book.{Book}
@@ -28,8 +30,8 @@ pub data Call : Type 0 where
   run : (security : ℕ) → Call
 
 -- 4: deposit or withdrawal outside 1 to 10^12
-unfoldable pub badAmount : ℕ → Bool
-badAmount q = eqb q 0 || ltb mostHeld q
+unfoldable pub badDeposit : ℕ → Bool
+badDeposit q = outside 1 mostHeld q
 
 -- what enter and amend check of the fields alike
 unfoldable pub fieldTests : Book → Trade → List Test → List Test
@@ -43,17 +45,17 @@ fieldTests k t rest =
 
 -- what deposit and withdraw check alike
 unfoldable pub holdingTests : Book → ℕ → ℕ → ℕ → List Test → List Test
-holdingTests k a s q rest = (noAccount a, 2) ∷ (badSecurity k s, 3) ∷ (badAmount q, 4) ∷ rest
+holdingTests k a s q rest = (noAccount a, 2) ∷ (badSecurity k s, 3) ∷ (badDeposit q, 4) ∷ rest
 
 -- Checks go by ascending number. (1 is checked before all of these.)
 unfoldable pub tests : Book → Call → List Test
-tests k (enter t) = fieldTests k t ((eqb (t .number) 0 || used (t .number) (listOf k), 7) ∷ (leb mostTrades (k .listed), 9) ∷ [])
+tests k (enter t) = fieldTests k t ((eqb (t .number) 0 || used (t .number) (listOf k), 7) ∷ (leb mostTrades (k .entries), 9) ∷ [])
 tests k (amend t) = fieldTests k t ((not (stands (t .number) (listOf k)), 8) ∷ [])
 tests k (exclude n) = (not (stands n (listOf k)), 8) ∷ []
-tests k roll = (ltb mostRecords (wouldBeOpen k), 10) ∷ (eqb (k .day) lastDay, 14) ∷ []
-tests k (deposit a s q) = holdingTests k a s q ((ltb mostHeld (totalHeld (k .holdings) s + q), 12) ∷ [])
-tests k (withdraw a s q) = holdingTests k a s q ((ltb (heldBy k a s) q, 11) ∷ [])
-tests k (run s) = (badSecurity k s, 3) ∷ (ltb (wanted k s) (deliverable k s), 13) ∷ []
+tests k roll = (above mostRecords (openPlusNets k), 10) ∷ (eqb (k .day) lastDay, 14) ∷ []
+tests k (deposit a s q) = holdingTests k a s q ((above mostHeld (totalHeld (k .holdings) s + q), 12) ∷ [])
+tests k (withdraw a s q) = holdingTests k a s q ((above (heldBy k a s) q, 11) ∷ [])
+tests k (run s) = (badSecurity k s, 3) ∷ (above (wanted k s) (deliverable k s), 13) ∷ []
 
 -- the book that an accepted call leaves
 unfoldable pub after : Book → Call → Book
@@ -61,8 +63,8 @@ after k (enter t) = withList k (entered (listOf k) t)
 after k (amend t) = withList k (amended (listOf k) t)
 after k (exclude n) = withList k (excluded (listOf k) n)
 after k roll = rolled k
-after k (deposit a s q) = withHoldings k (set (k .holdings) (slot a s) (heldBy k a s + q))
-after k (withdraw a s q) = withHoldings k (set (k .holdings) (slot a s) (heldBy k a s - q))
+after k (deposit a s q) = withHoldings k (set (k .holdings) (holdingAt a s) (heldBy k a s + q))
+after k (withdraw a s q) = withHoldings k (set (k .holdings) (holdingAt a s) (heldBy k a s - q))
 after k (run s) = settled k s
 
 -- the figure that an accepted call answers: a run the shares moved, 0 included; the others have none
@@ -80,13 +82,12 @@ unfoldable pub answerSound : Book → Call → ℕ
 answerSound k c = first (tests k c)
 
 unfoldable pub answer : Book → Call → ℕ
-answer k c = refuse (not (sound k)) 1 (answerSound k c)
+answer k c = first ((not (sound k), 1) ∷ tests k c)
 
 -- ── over lent bytes ──
 
--- Elsewhere (than in a file and at creation) a book of wrong length is 1.
 unfoldable pub answerBytes : List ℕ → Call → ℕ
-answerBytes bs c = refuse (not (eqb (length bs) bookLength)) 1 (answer (bookOf bs) c)
+answerBytes bs c = first ((notSound bs, 1) ∷ tests (bookOf bs) c)
 
 -- A refused call alters nothing: the book keeps its bytes.
 unfoldable pub afterBytes : List ℕ → Call → List ℕ
@@ -98,16 +99,16 @@ figureBytes bs c = cond (eqb (answerBytes bs c) 0) (figure (bookOf bs) c) 0
 
 -- the answer of a run as it is returned
 unfoldable pub runAnswer : List ℕ → ℕ → RunAnswer
-runAnswer bs s = cond (eqb (answerBytes bs (run s)) 0) (Moved (figureBytes bs (run s))) (RunRefused (answerBytes bs (run s)))
+runAnswer bs s = cond (eqb (answerBytes bs (run s)) 0) (Moved (shares (pos (figureBytes bs (run s))))) (RunRefused (answerBytes bs (run s)))
 
 -- the paper's number of it, and its figure: zero when refused
 unfoldable pub numberOfRun : RunAnswer → ℕ
 numberOfRun (Moved n) = 0
 numberOfRun (RunRefused r) = r
 
-unfoldable pub figureOfRun : RunAnswer → ℕ
-figureOfRun (Moved n) = n
-figureOfRun (RunRefused r) = 0
+unfoldable pub figureOfRun : RunAnswer → ℤ
+figureOfRun (Moved n) = sharesOf n
+figureOfRun (RunRefused r) = pos 0
 
 -- ── creation: 18, 3; it begins a new history and looks at no old byte ──
 

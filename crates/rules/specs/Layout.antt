@@ -86,7 +86,7 @@ bookFields =
 
 abbrev pub fieldsOfBook : Book → BookFields
 fieldsOfBook k =
-    (k .day, (k .currency, (k .records, (k .positions, (k .holdings, (k .charges, (k .listed, k .trades)))))))
+    (k .day, (k .currency, (k .records, (k .positions, (k .holdings, (k .charges, (k .entries, k .trades)))))))
 
 abbrev pub book : Codec Book
 book =
@@ -99,7 +99,7 @@ book =
       positions = r .1 .1 .1 .0;
       holdings = r .1 .1 .1 .1 .0;
       charges = r .1 .1 .1 .1 .1 .0;
-      listed = r .1 .1 .1 .1 .1 .1 .0;
+      entries = r .1 .1 .1 .1 .1 .1 .0;
       trades = r .1 .1 .1 .1 .1 .1 .1;
     })
     fieldsOfBook

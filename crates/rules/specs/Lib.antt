@@ -12,10 +12,12 @@ pub mod Run
 pub mod Prices
 pub mod Marks
 pub mod Calls
+pub mod Records
 pub mod CallFile
 pub mod Sheet
 pub mod LayoutLaws
 -- theorems by computation
 pub mod Written
 pub mod Opened
+pub mod Figures
 pub mod Example

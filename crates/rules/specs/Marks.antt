@@ -2,19 +2,19 @@
 use mathlib.Core.Bool.{Bool, cond, not, _&&_, _||_}
 use mathlib.Core.List.{List, [], _∷_}
 use Prim.Native.Nat.{ℕ, _-_}
-use lib.Dec.{eqb, ltb}
+use lib.Dec.{eqb}
 use lib.ListN.{length, getD}
 use lib.IntN.{ℤ, pos, _-ℤ_, _*ℤ_}
 use Rattle.integers.specs.Sums.{sumBy}
 use Rattle.units.specs.Units.{milsOf, mils, topRate, wholeHaircut}
 use Rattle.units.specs.Conversion.{favourableOf, unfavourableOf}
-use Rattle.rules.specs.Words.{any, keep, total, Test, refuse, first}
+use Rattle.rules.specs.Words.{any, keep, total, above, outside, Test, first}
 use Rattle.rules.specs.Bounds.{currencies, everyCurrency, baseRate, mostConverted}
 use Rattle.rules.specs.Book.{quantityOf, moneyOf, isZero, securityOf, openOf, currencyOf}
-use Rattle.rules.specs.Layout.{bookLength, bookOf}
+use Rattle.rules.specs.Layout.{bookOf}
 use Rattle.rules.specs.Trades.{noAccount}
-use Rattle.rules.specs.Sound.{sound, recordsOf}
-use Rattle.rules.specs.Prices.{wrongTable, dearEntry, priceOf, noPrice}
+use Rattle.rules.specs.Sound.{recordsOf, notSound}
+use Rattle.rules.specs.Prices.{wrongTable, entryAbove, priceOf, noPrice}
 use Rattle.rules.specs.declared.Position.{Position}
 use Rattle.rules.specs.declared.Book.{Book}
 use Rattle.rules.specs.declared.MarksAnswer.{MarksAnswer}
@@ -82,29 +82,28 @@ wrongTerms t =
 -- 15: rate outside 1 to 100,000,000; haircut above 10,000; base not rate 1,000,000 with haircut 0
 unfoldable pub badRates : Terms → Bool
 badRates t =
-    any (λ r. eqb r 0 || ltb topRate r) (t .rates)
-    || (any (λ h. ltb wholeHaircut h) (t .haircuts)
+    any (outside 1 topRate) (t .rates)
+    || (any (above wholeHaircut) (t .haircuts)
     || not (eqb (rateOf t 0) baseRate && eqb (haircutOf t 0) 0))
 
 -- 16: either converted mark total passes 9*10^18
 unfoldable pub passesLimit : Book → Terms → List Position → Bool
-passesLimit k t ps = ltb mostConverted (favourableTotal k t ps) || ltb mostConverted (unfavourableTotal k t ps)
+passesLimit k t ps = above mostConverted (favourableTotal k t ps) || above mostConverted (unfavourableTotal k t ps)
 
--- Marks: 1, 2, 18, 5, 15, 17, 16.
-unfoldable pub marksTests : Book → ℕ → Terms → List Test
-marksTests k a t =
-    (not (sound k), 1) ∷
+-- Marks: 1, 2, 18, 5, 15, 17, 16. The book is only read.
+unfoldable pub marksTests : List ℕ → ℕ → Terms → List Test
+marksTests bs a t =
+    (notSound bs, 1) ∷
     (noAccount a, 2) ∷
     (wrongTerms t, 18) ∷
-    (dearEntry (t .intraday) || dearEntry (t .closing), 5) ∷
+    (entryAbove (t .intraday) || entryAbove (t .closing), 5) ∷
     (badRates t, 15) ∷
-    (any (lacksPrice t) (markedOf k a), 17) ∷
-    (passesLimit k t (markedOf k a), 16) ∷
+    (any (lacksPrice t) (markedOf (bookOf bs) a), 17) ∷
+    (passesLimit (bookOf bs) t (markedOf (bookOf bs) a), 16) ∷
     []
 
--- a book of wrong length is 1
 unfoldable pub marksNumber : List ℕ → ℕ → Terms → ℕ
-marksNumber bs a t = refuse (not (eqb (length bs) bookLength)) 1 (first (marksTests (bookOf bs) a t))
+marksNumber bs a t = first (marksTests bs a t)
 
 unfoldable pub marks : List ℕ → ℕ → Terms → MarksAnswer
 marks bs a t =

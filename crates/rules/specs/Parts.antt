@@ -6,7 +6,7 @@ use Rattle.integers.specs.Signs.{towardZero}
 use Rattle.units.specs.Part.{partOf}
 use Rattle.units.specs.Units.{shares, mils}
 use Rattle.units.specs.declared.Mils.{Mils}
-use Rattle.rules.specs.Book.{quantityOf, moneyOf, accountOf, securityOf, currencyOf, purse, charged}
+use Rattle.rules.specs.Book.{quantityOf, moneyOf, accountOf, securityOf, currencyOf, chargeAt, charged}
 use Rattle.rules.specs.declared.Position.{Position}
 use Rattle.rules.specs.declared.Book.{Book}
 
@@ -21,7 +21,7 @@ without p k =
 
 -- an amount of a record is charged to its account, in the currency of its security
 unfoldable pub chargedTo : Book → List Mils → Position → ℤ → List Mils
-chargedTo b cs p m = charged cs (purse (accountOf p) (currencyOf b (securityOf p))) m
+chargedTo b cs p m = charged cs (chargeAt (accountOf p) (currencyOf b (securityOf p))) m
 
 -- a part of k shares taken from each of two records: each part's money is charged
 unfoldable pub chargedBoth : Book → List Mils → Position → Position → ℕ → List Mils

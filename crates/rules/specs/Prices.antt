@@ -2,11 +2,11 @@
 use mathlib.Core.Bool.{Bool, cond, not, _||_}
 use mathlib.Core.List.{List, [], _∷_}
 use Prim.Native.Nat.{ℕ, _+_, _*_}
-use lib.Dec.{eqb, ltb}
+use lib.Dec.{eqb}
 use lib.ListN.{length, take, drop}
 use Rattle.fields.specs.Field.{field}
 use Rattle.units.specs.Units.{topPrice}
-use Rattle.rules.specs.Words.{any, Test, first}
+use Rattle.rules.specs.Words.{any, above, Test, first}
 use Rattle.rules.specs.Bounds.{securities, everySecurity}
 use Rattle.rules.specs.Trades.{noSecurity}
 
@@ -19,8 +19,8 @@ unfoldable pub wrongTable : List ℕ → Bool
 wrongTable table = not (eqb (length table) (securities * 4))
 
 -- 5: in a price table, any entry above 9,999,999
-unfoldable pub dearEntry : List ℕ → Bool
-dearEntry table = any (λ s. ltb topPrice (entryOf table s)) everySecurity
+unfoldable pub entryAbove : List ℕ → Bool
+entryAbove table = any (λ s. above topPrice (entryOf table s)) everySecurity
 
 -- The price is the intraday table's entry, or, if that is 0, the closing table's.
 unfoldable pub tableUsed : List ℕ → List ℕ → ℕ → List ℕ
@@ -38,7 +38,7 @@ unfoldable pub priceTests : List ℕ → List ℕ → ℕ → List Test
 priceTests intraday closing s =
     (wrongTable intraday || wrongTable closing, 18) ∷
     (noSecurity s, 3) ∷
-    (dearEntry intraday || dearEntry closing, 5) ∷
+    (entryAbove intraday || entryAbove closing, 5) ∷
     (noPrice intraday closing s, 17) ∷
     []
 
@@ -50,12 +50,9 @@ unfoldable pub pricePart : List ℕ → List ℕ → ℕ → List ℕ
 pricePart intraday closing s =
     cond (eqb (priceAnswer intraday closing s) 0) (take 4 (drop (s * 4) (tableUsed intraday closing s))) []
 
--- where it stands, if the tables begin at a and b: a place is a region and a byte in it; an empty part stands at the front of the intraday table
+-- where the part of an accepted question stands, if the tables begin at a and b (a place is a region and a byte in it)
 abbrev pub Place : Type 0
 Place = ℕ × ℕ
 
-unfoldable pub pricePlace : List ℕ → List ℕ → ℕ → Place → Place → Place
-pricePlace intraday closing s a b =
-    cond (eqb (priceAnswer intraday closing s) 0)
-    (cond (eqb (entryOf intraday s) 0) (b .0, s * 4 + b .1) (a .0, s * 4 + a .1))
-    (a .0, 0 + a .1)
+unfoldable pub pricePlace : List ℕ → ℕ → Place → Place → Place
+pricePlace intraday s a b = cond (eqb (entryOf intraday s) 0) (b .0, s * 4 + b .1) (a .0, s * 4 + a .1)

@@ -104,5 +104,5 @@ unfoldable pub rolled : Book → Book
 rolled k = offset (nextDay (emptied (netted (uncharged k))))
 
 -- Refusal 10 looks at open positions plus today's nets, counted before any offset.
-unfoldable pub wouldBeOpen : Book → ℕ
-wouldBeOpen k = k .records + length (nets (k .day + 2) (listOf k))
+unfoldable pub openPlusNets : Book → ℕ
+openPlusNets k = k .records + length (nets (k .day + 2) (listOf k))

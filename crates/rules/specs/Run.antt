@@ -1,20 +1,20 @@
--- The settlement run, for one security (document 01, "Settlement run").
+-- The settlement run, for one security (document 01, "Settlement run"): who gives and who receives, how they meet, what the meetings do.
 use mathlib.Core.Bool.{Bool, cond, _&&_}
-use mathlib.Core.List.{List, [], _∷_, _++_}
-use Prim.Native.Nat.{ℕ, zero, suc, _+_, _-_, min}
+use mathlib.Core.List.{List, [], _∷_, _++_, map}
+use Prim.Native.Nat.{ℕ, suc, _+_, _-_, min}
 use lib.Dec.{eqb, ltb}
 use lib.ListN.{getD, set}
 use lib.IntN.{ℤ, pos, negsuc}
 use Rattle.units.specs.declared.Mils.{Mils}
 use Rattle.rules.specs.Words.{keep, total}
-use Rattle.rules.specs.Book.{quantityOf, accountOf, securityOf, openOf, slot, noPosition, withOpen, withHoldings, withCharges}
+use Rattle.rules.specs.Book.{quantityOf, accountOf, securityOf, openOf, holdingAt, withOpen, withHoldings, withCharges}
 use Rattle.rules.specs.Sound.{isDue}
 use Rattle.rules.specs.Roll.{remains}
-use Rattle.rules.specs.Parts.{without, chargedBoth}
+use Rattle.rules.specs.Parts.{partMoney, without, chargedTo}
 use Rattle.rules.specs.declared.Position.{Position}
 use Rattle.rules.specs.declared.Book.{Book}
 
--- ── deliverers and receivers ──
+-- ── givers and receivers ──
 
 -- shares to deliver are a negative quantity, shares to receive a positive one
 unfoldable pub shortOf : ℤ → ℕ
@@ -25,112 +25,126 @@ unfoldable pub longOf : ℤ → ℕ
 longOf (pos n) = n
 longOf (negsuc n) = 0
 
--- what a record owes, and wants, of security s, if it is due on the day
-unfoldable pub dueIn : ℕ → ℕ → Position → Bool
-dueIn day s p = eqb (securityOf p) s && isDue day p
+-- the records of security s that are due on the day, by ascending number
+unfoldable pub dueIn : Book → ℕ → List Position
+dueIn b s = keep (λ p. eqb (securityOf p) s && isDue (b .day) p) (openOf b)
 
-unfoldable pub owes : ℕ → ℕ → Position → ℕ
-owes day s p = cond (dueIn day s p) (shortOf (quantityOf p)) 0
+-- one side of the run: a record's number, its account, and the shares that it has left to give or still wants
+pub record Side : Type 0 where
+  pub number : ℕ
+  pub account : ℕ
+  pub shares : ℕ
 
-unfoldable pub wants : ℕ → ℕ → Position → ℕ
-wants day s p = cond (dueIn day s p) (longOf (quantityOf p)) 0
+abbrev pub side : Position → ℕ → Side
+side p k = record { number = p .number; account = accountOf p; shares = k }
 
--- Due deliverers, by ascending number, give the smaller of their shares and what the account still holds: in all, from holdings hs.
-unfoldable pub gives : ℕ → ℕ → List Position → List ℕ → ℕ
-gives day s [] hs = 0
-gives day s (p ∷ ps) hs =
-    let at = slot (accountOf p) s in
-    let k = min (owes day s p) (getD hs at 0) in
-    let rest = gives day s ps hs in
-    let more = k + gives day s ps (set hs at (getD hs at 0 - k)) in
-    cond (eqb (owes day s p) 0) rest more
+-- Due deliverers, by ascending number, give the smaller of their shares and what the account still holds.
+unfoldable pub giversOf : ℕ → List Position → List ℕ → List Side
+giversOf s [] held = []
+giversOf s (p ∷ ps) held =
+    let at = holdingAt (accountOf p) s in
+    let k = min (shortOf (quantityOf p)) (getD held at 0) in
+    let passed = giversOf s ps held in
+    let given = side p k ∷ giversOf s ps (set held at (getD held at 0 - k)) in
+    cond (eqb k 0) passed given
 
+unfoldable pub givers : Book → ℕ → List Side
+givers b s = giversOf s (dueIn b s) (b .holdings)
+
+unfoldable pub receivers : Book → ℕ → List Side
+receivers b s = keep (λ r. ltb 0 (r .shares)) (map (λ p. side p (longOf (quantityOf p))) (dueIn b s))
+
+-- deliverable shares, and the receivers' total
 unfoldable pub deliverable : Book → ℕ → ℕ
-deliverable k s = gives (k .day) s (openOf k) (k .holdings)
+deliverable b s = total (λ g. g .shares) (givers b s)
 
--- the receivers' total
 unfoldable pub wanted : Book → ℕ → ℕ
-wanted k s = total (wants (k .day) s) (openOf k)
+wanted b s = total (λ r. r .shares) (receivers b s)
 
 -- ── meetings ──
 
--- the numbers of the giver's and the receiver's records, and the shares
+-- A part is one meeting of a giver and a receiver,
 pub record Meeting : Type 0 where
-  pub giver : ℕ
-  pub receiver : ℕ
+  pub giver : Side
+  pub receiver : Side
   pub shares : ℕ
 
--- a run so far: records, holdings, charges, and the meetings in their order
-pub record Running : Type 0 where
-  pub records : List Position
-  pub holdings : List ℕ
-  pub charges : List Mils
+-- the meetings of one receiver, and what the givers have left to give
+pub record Filled : Type 0 where
   pub meetings : List Meeting
+  pub left : List Side
 
-abbrev pub row : List Position → ℕ → Position
-row ps i = getD ps i noPosition
+-- a giver with k shares less to give, before the others; with none left it is gone
+unfoldable pub leaving : Side → ℕ → List Side → List Side
+leaving g k gs =
+    let less : Side = record { number = g .number; account = g .account; shares = g .shares - k } in
+    cond (eqb (g .shares) k) gs (less ∷ gs)
 
--- what the giver in row g has left to give: its shares, or what its account still holds if that is less
-unfoldable pub leftToGive : ℕ → ℕ → Running → ℕ → ℕ
-leftToGive day s x g = min (owes day s (row (x .records) g)) (getD (x .holdings) (slot (accountOf (row (x .records) g)) s) 0)
+-- of the smaller of what the one has left to give and the other (r, who wants w more) still wants.
+unfoldable pub filled : Side → ℕ → List Side → Filled
+filled r w [] = record { meetings = []; left = [] }
+filled r w (g ∷ gs) =
+    let k = min (g .shares) w in
+    let rest = filled r (w - k) gs in
+    let met : Filled = record { meetings = record { giver = g; receiver = r; shares = k } ∷ rest .meetings; left = leaving g k (rest .left) } in
+    let full : Filled = record { meetings = []; left = g ∷ gs } in
+    cond (eqb w 0) full met
 
--- A part is of the smaller of what the one has left to give and the other still wants,
-unfoldable pub sizeOf : ℕ → ℕ → Running → ℕ → ℕ → ℕ
-sizeOf day s x g r = min (leftToGive day s x g) (wants day s (row (x .records) r))
-
--- taken from both records.
-unfoldable pub withoutBoth : List Position → ℕ → ℕ → ℕ → List Position
-withoutBoth ps g r k = set (set ps g (without (row ps g) k)) r (without (row ps r) k)
-
--- Holdings move.
-unfoldable pub moved : List ℕ → ℕ → ℕ → ℕ → List ℕ
-moved hs giver taker k = let less = set hs giver (getD hs giver 0 - k) in set less taker (getD less taker 0 + k)
-
--- One meeting of giver g and receiver r, of k shares. Each part's money is charged.
-unfoldable pub met : Book → ℕ → Running → ℕ → ℕ → ℕ → Running
-met b s x g r k =
-    let giver = row (x .records) g in
-    let receiver = row (x .records) r in
-    record {
-      records = withoutBoth (x .records) g r k;
-      holdings = moved (x .holdings) (slot (accountOf giver) s) (slot (accountOf receiver) s) k;
-      charges = chargedBoth b (x .charges) giver receiver k;
-      meetings = x .meetings ++ (record { giver = giver .number; receiver = receiver .number; shares = k } ∷ []);
-    }
-
--- who owes nothing, wants nothing or has nothing left to give does not meet
-unfoldable pub meet : Book → ℕ → ℕ → ℕ → Running → Running
-meet b s g r x =
-    let k = sizeOf (b .day) s x g r in
-    let some = cond (ltb 0 k) (met b s x g r k) x in
-    cond (ltb 0 (wants (b .day) s (row (x .records) r))) some x
-
--- Receivers, by ascending number, are filled one after another: giver g meets the n records from r on.
-unfoldable pub serve : Book → ℕ → ℕ → ℕ → ℕ → Running → Running
-serve b s g zero r x = x
-serve b s g (suc n) r x = serve b s g n (suc r) (meet b s g r x)
-
--- each of the n records from g on, by ascending number, serves all records
-unfoldable pub search : Book → ℕ → ℕ → ℕ → Running → Running
-search b s zero g x = x
-search b s (suc n) g x =
-    search b s n (suc g) (cond (ltb 0 (owes (b .day) s (row (x .records) g))) (serve b s g (b .records) 0 x) x)
-
-unfoldable pub ran : Book → ℕ → Running
-ran b s =
-    search b s (b .records) 0 (record { records = openOf b; holdings = b .holdings; charges = b .charges; meetings = [] })
-
--- ── what the run answers and leaves ──
+-- Receivers, by ascending number, are filled with that total, one after another.
+unfoldable pub meetingsOf : List Side → List Side → List Meeting
+meetingsOf [] gs = []
+meetingsOf (r ∷ rs) gs = let f = filled r (r .shares) gs in f .meetings ++ meetingsOf rs (f .left)
 
 unfoldable pub meetings : Book → ℕ → List Meeting
-meetings b s = ran b s .meetings
+meetings b s = meetingsOf (receivers b s) (givers b s)
 
 -- The answer is the shares moved, 0 included.
 unfoldable pub sharesMoved : Book → ℕ → ℕ
 sharesMoved b s = total (λ m. m .shares) (meetings b s)
 
+-- ── what the meetings do ──
+
+-- k shares are taken from the record of number n,
+unfoldable pub takenFrom : ℕ → ℕ → List Position → List Position
+takenFrom n k ps = map (λ p. cond (eqb (p .number) n) (without p k) p) ps
+
+-- their money is charged,
+unfoldable pub chargedFor : Book → ℕ → ℕ → List Position → List Mils → List Mils
+chargedFor b n k [] cs = cs
+chargedFor b n k (p ∷ ps) cs =
+    let other = chargedFor b n k ps cs in
+    cond (eqb (p .number) n) (chargedTo b cs p (partMoney p k)) other
+
+-- and holdings move.
+unfoldable pub moved : List ℕ → ℕ → ℕ → ℕ → List ℕ
+moved hs giver receiver k =
+    let less = set hs giver (getD hs giver 0 - k) in
+    set less receiver (getD less receiver 0 + k)
+
+-- records, holdings and charges while the parts are taken
+pub record Running : Type 0 where
+  pub records : List Position
+  pub holdings : List ℕ
+  pub charges : List Mils
+
+-- one meeting: the part is taken from both records, each part's money is charged
+unfoldable pub met : Book → ℕ → Running → Meeting → Running
+met b s x m =
+    let g = m .giver in
+    let r = m .receiver in
+    let k = m .shares in
+    record {
+      records = takenFrom (r .number) k (takenFrom (g .number) k (x .records));
+      holdings = moved (x .holdings) (holdingAt (g .account) s) (holdingAt (r .account) s) k;
+      charges = chargedFor b (r .number) k (x .records) (chargedFor b (g .number) k (x .records) (x .charges));
+    }
+
+unfoldable pub taken : Book → ℕ → Running → List Meeting → Running
+taken b s x [] = x
+taken b s x (m ∷ ms) = taken b s (met b s x m) ms
+
 -- Records at 0 shares go.
 unfoldable pub settled : Book → ℕ → Book
 settled b s =
-    let x = ran b s in
+    let x = taken b s (record { records = openOf b; holdings = b .holdings; charges = b .charges }) (meetings b s) in
     withOpen (withHoldings (withCharges b (x .charges)) (x .holdings)) (keep (remains (b .day)) (x .records))

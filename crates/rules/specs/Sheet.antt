@@ -1,5 +1,5 @@
 -- The sheet (document 01, "Call file and sheet"): the text of a line, the lines of a file, and the writing of a line with its tally.
-use mathlib.Core.Bool.{Bool, cond, _&&_}
+use mathlib.Core.Bool.{Bool, cond, not, _&&_, _||_}
 use mathlib.Core.List.{List, [], _∷_, _++_, map}
 use mathlib.Core.Option.{Option, some, none}
 use Prim.Native.Nat.{ℕ, zero, suc, _+_, _/_, _%_}
@@ -7,11 +7,13 @@ use lib.Dec.{eqb, leb, ltb}
 use lib.ListN.{length, drop}
 use lib.IntN.{ℤ, pos, negsuc}
 use Rattle.units.specs.Units.{sharesOf, milsOf, mils}
-use Rattle.rules.specs.Words.{each, text}
+use Rattle.rules.specs.Words.{each, text, above}
 use Rattle.rules.specs.Bounds.{everyAccount, everyCurrency, mostTally}
 use Rattle.rules.specs.Book.{isZero, accountOf, securityOf, openOf, chargeOf}
+use Rattle.rules.specs.Layout.{bookLength}
 use Rattle.rules.specs.Calls.{Call, answer}
-use Rattle.rules.specs.CallFile.{contentsOf, Played, playedFrom, tooLong}
+use Rattle.rules.specs.Records.{tooLong}
+use Rattle.rules.specs.CallFile.{Answer, Played, fileBy, fileOf, bytesLeft}
 use Rattle.rules.specs.declared.Position.{Position}
 use Rattle.rules.specs.declared.Book.{Book}
 use Rattle.rules.specs.declared.Tally.{Tally}
@@ -50,15 +52,15 @@ textOf (End n) = text "E" ++ spaced (decimal n ∷ [])
 
 -- ── the lines of a sheet ──
 
--- For each refused call, R record index from 0, refusal;
-unfoldable pub refusalLines : ℕ → List ℕ → List Line
-refusalLines i [] = []
-refusalLines i (n ∷ ns) = let rest = refusalLines (suc i) ns in cond (eqb n 0) rest (Refusal i n ∷ rest)
+-- For each refused call, R record index from 0, refusal; for 19, X place;
+unfoldable pub answerLine : ℕ → Answer → List Line
+answerLine i a =
+    cond (eqb (a .number) 0) []
+    (cond (eqb (a .number) 19) (Place (a .figure) ∷ []) (Refusal i (a .number) ∷ []))
 
--- for 19, X place;
-unfoldable pub placeLines : Option ℕ → List Line
-placeLines none = []
-placeLines (some place) = Place place ∷ []
+unfoldable pub answerLines : ℕ → List Answer → List Line
+answerLines i [] = []
+answerLines i (a ∷ rest) = answerLine i a ++ answerLines (suc i) rest
 
 -- P by number;
 unfoldable pub openLine : Position → Line
@@ -80,22 +82,41 @@ bookLines (some k) = Day (k .day) ∷ (map openLine (openOf k) ++ chargeLines k)
 unfoldable pub ended : List Line → List Line
 ended ls = ls ++ (End (length ls) ∷ [])
 
-unfoldable pub linesOf : Played → Option ℕ → List Line
-linesOf f place = ended (refusalLines 0 (f .answers) ++ (placeLines place ++ bookLines (f .book)))
+unfoldable pub linesOf : Played → List Line
+linesOf f = ended (answerLines 0 (f .answers) ++ bookLines (f .book))
 
 -- A file refused by 18 gives R 0 18 and E 1.
 unfoldable pub refusedSheet : List Line
 refusedSheet = ended (Refusal 0 18 ∷ [])
 
--- the sheet of a call file, by whatever function answers its calls
 unfoldable pub sheetBy : (Book → Call → ℕ) → List ℕ → List ℕ
-sheetBy answers file =
-    let lines = linesOf (playedFrom answers (contentsOf file .codes) (contentsOf file .calls)) (contentsOf file .place) in
-    each textOf (cond (tooLong file) refusedSheet lines)
+sheetBy number file = each textOf (cond (tooLong file) refusedSheet (linesOf (fileBy number file)))
 
 -- The sheet of a call file.
 unfoldable pub sheetOf : List ℕ → List ℕ
 sheetOf file = sheetBy answer file
+
+-- ── the whole sheet as one call: a book's room, a file and a lent buffer ──
+
+-- 18: the book's room has the wrong length, or the sheet doesn't fit; then nothing is altered
+unfoldable pub sheetRefused : List ℕ → List ℕ → List ℕ → Bool
+sheetRefused book file buffer = not (eqb (length book) bookLength) || above (length buffer) (length (sheetOf file))
+
+unfoldable pub sheetAnswer : List ℕ → List ℕ → List ℕ → ℕ
+sheetAnswer book file buffer = cond (sheetRefused book file buffer) 18 0
+
+-- how long the sheet is, and the buffer with the sheet in front; bytes beyond it stay
+unfoldable pub sheetSize : List ℕ → List ℕ → List ℕ → ℕ
+sheetSize book file buffer = cond (sheetRefused book file buffer) 0 (length (sheetOf file))
+
+unfoldable pub sheetBytes : List ℕ → List ℕ → List ℕ → List ℕ
+sheetBytes book file buffer =
+    cond (sheetRefused book file buffer) buffer (sheetOf file ++ drop (length (sheetOf file)) buffer)
+
+-- the book that the file leaves
+unfoldable pub sheetBook : List ℕ → List ℕ → List ℕ → List ℕ
+sheetBook book file buffer =
+    cond (sheetRefused book file buffer || tooLong file) book (bytesLeft book (fileOf file .book))
 
 -- ── a line is written into a lent buffer, with a tally of lines and bytes ──
 

@@ -1,9 +1,10 @@
 -- A sound book (document 01, the section of that name): its sentences in their order, and their conjunction.
+-- The lengths of the five tables come with the type of the book: 32, 1,024, 2,048, 256 and 256.
 use mathlib.Core.Bool.{Bool, true, false, not, _&&_, _||_, Bool·beq}
 use mathlib.Core.List.{List, [], _∷_, map}
 use Prim.Native.Nat.{ℕ, zero, suc, _+_}
 use lib.Dec.{eqb, leb, ltb}
-use lib.ListN.{getD, take, drop, replicate}
+use lib.ListN.{length, getD, take, drop, replicate}
 use lib.IntN.{ℤ, pos, natAbs}
 use Rattle.integers.specs.Signs.{isNegative}
 use Rattle.integers.specs.Sums.{sumBy}
@@ -12,6 +13,7 @@ use Rattle.units.specs.declared.Mils.{Mils}
 use Rattle.rules.specs.Words.{all, keep, total}
 use Rattle.rules.specs.Bounds.{accounts, securities, currencies, lastCurrency, noCurrency, everySecurity, everyCurrency, lastDay, mostRecords, mostTrades, mostHeld, mostAtStake}
 use Rattle.rules.specs.Book.{quantityOf, moneyOf, isZero, dueOf, accountOf, securityOf, openOf, listOf, currencyOf, unlisted}
+use Rattle.rules.specs.Layout.{bookLength, bookOf}
 use Rattle.rules.specs.Trades.{badAccounts, badSecurity, badQuantity, badPrice, sameAccount}
 use Rattle.rules.specs.declared.Position.{Position}
 use Rattle.rules.specs.declared.Trade.{Trade}
@@ -123,16 +125,16 @@ unfoldable pub openMoney : Book → List Position → ℕ → ℕ
 openMoney k ps c = total (λ p. natAbs (moneyOf p)) (keep (λ p. eqb (currencyOf k (securityOf p)) c) ps)
 
 -- an account's records and charges
-unfoldable pub stakeFits : Book → List Position → List Mils → Bool
-stakeFits k ps cs = all (λ c. leb (natAbs (milsOf (getD cs c (mils (pos 0)))) + openMoney k ps c) mostAtStake) everyCurrency
+unfoldable pub moneyFitsOf : Book → List Position → List Mils → Bool
+moneyFitsOf k ps cs = all (λ c. leb (natAbs (milsOf (getD cs c (mils (pos 0)))) + openMoney k ps c) mostAtStake) everyCurrency
 
 -- account by account from a on
-unfoldable pub stakesFitFrom : Book → ℕ → List (List Mils) → Bool
-stakesFitFrom k a [] = true
-stakesFitFrom k a (cs ∷ rest) = stakeFits k (recordsOf a (openOf k)) cs && stakesFitFrom k (suc a) rest
+unfoldable pub moneyFitsFrom : Book → ℕ → List (List Mils) → Bool
+moneyFitsFrom k a [] = true
+moneyFitsFrom k a (cs ∷ rest) = moneyFitsOf k (recordsOf a (openOf k)) cs && moneyFitsFrom k (suc a) rest
 
-unfoldable pub stakesFit : Book → Bool
-stakesFit k = stakesFitFrom k 0 (byAccount currencies accounts (k .charges))
+unfoldable pub moneyFits : Book → Bool
+moneyFits k = moneyFitsFrom k 0 (byAccount currencies accounts (k .charges))
 
 -- Trades: at most 256, numbers distinct and nonzero, fields valid; an excluded one keeps its number and order, other fields zero.
 unfoldable pub distinct : List ℕ → Bool
@@ -147,10 +149,10 @@ zeroFields t = eqb (t .buyer) 0 && (eqb (t .seller) 0 && (eqb (t .security) 0 &&
 
 unfoldable pub tradesFit : Book → Bool
 tradesFit k =
-    leb (k .listed) mostTrades
+    leb (k .entries) mostTrades
     && (distinct (map (λ t. t .number) (listOf k))
     && (all (λ t. not (eqb (t .number) 0) && (validTrade k t || zeroFields t)) (listOf k)
-    && all (λ t. eqb (t .number) 0 && zeroFields t) (drop (k .listed) (k .trades))))
+    && all (λ t. eqb (t .number) 0 && zeroFields t) (drop (k .entries) (k .trades))))
 
 -- All of it.
 unfoldable pub sound : Book → Bool
@@ -165,5 +167,9 @@ sound k =
     && (dueBalanced k
     && (holdingsFit k
     && (unlistedEmpty k
-    && (stakesFit k
+    && (moneyFits k
     && tradesFit k))))))))))
+
+-- 1: the book is not sound; a book of wrong length is none
+unfoldable pub notSound : List ℕ → Bool
+notSound bs = not (eqb (length bs) bookLength && sound (bookOf bs))

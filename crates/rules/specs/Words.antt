@@ -2,6 +2,7 @@
 use mathlib.Core.Bool.{Bool, true, false, cond, _&&_, _||_}
 use mathlib.Core.List.{List, [], _∷_, _++_}
 use Prim.Native.Nat.{ℕ, zero, suc, _+_}
+use lib.Dec.{ltb}
 use Prim.Native.Char.{code}
 use Prim.Native.String as String
 
@@ -39,14 +40,17 @@ from i (suc n) = i ∷ from (suc i) n
 abbrev pub Test : Type 0
 Test = Bool × ℕ
 
-abbrev pub refuse : Bool → ℕ → ℕ → ℕ
-refuse true n m = n
-refuse false n m = m
-
 -- the number of the first test that holds; 0 where none does
 unfoldable pub first : List Test → ℕ
 first [] = 0
-first (t ∷ ts) = refuse (t .0) (t .1) (first ts)
+first (t ∷ ts) = cond (t .0) (t .1) (first ts)
+
+-- document 01's words for bounds
+abbrev pub above : ℕ → ℕ → Bool
+above top n = ltb top n
+
+abbrev pub outside : ℕ → ℕ → ℕ → Bool
+outside low high n = ltb n low || ltb high n
 
 -- the bytes of a text
 unfoldable pub text : String.String → List ℕ

@@ -20,7 +20,7 @@ pub struct Trade {
     pub price: Price,
 }
 
-// The book: how many records the position table has, and the table; how many trades are in today's list, and the list.
+// The book: how many records the position table has, and the table; how many numbers today's list has, and the list.
 // Holdings stand at account * 32 + security, charges at account * 4 + currency.
 pub struct Book {
     pub day: u16,
@@ -29,13 +29,13 @@ pub struct Book {
     pub positions: [Position; 1024],
     pub holdings: [u64; 2048],
     pub charges: [Mils; 256],
-    pub listed: u16,
+    pub entries: u16,
     pub trades: [Trade; 256],
 }
 
 // The answer of a run: the shares moved, or the refusal.
 pub enum RunAnswer {
-    Moved(u64),
+    Moved(Shares),
     RunRefused(u8),
 }
 
@@ -48,7 +48,7 @@ pub enum MarksAnswer {
 // The answer of one record of a call file: the call's own answer, the shares moved if it was a run, and the place of
 // the next record; or the place where an unreadable record begins; or that the file ends here; or the file's refusal.
 pub enum RecordAnswer {
-    Answered(u8, u64, u32),
+    Answered(u8, Shares, u32),
     Unreadable(u32),
     Ended,
     FileRefused(u8),
