@@ -1,19 +1,17 @@
 -- The whole example of document 01: its 104 bytes, and its sheet.
 use mathlib.Core.Path.{_≡_, refl}
-use mathlib.Core.List.{List, _++_}
+use mathlib.Core.List.{List, [], _∷_, _++_}
 use Prim.Native.Nat.{ℕ}
-use lib.ListN.{length, replicate}
+use lib.ListN.{length}
 use Rattle.rules.specs.Words.{text}
 use Rattle.rules.specs.Sheet.{sheetOf}
 use Rattle.rules.specs.Opened.{everything}
-use Rattle.rules.specs.Written.{hex}
+use Rattle.rules.specs.Written.{hex, created}
 
 abbrev pub example : List ℕ
 example =
-    -- version 1
-    hex "01"
-    -- create: security 0 in currency 0, the rest unlisted
-    ++ hex "0021 00 00" ++ replicate 31 255
+    -- version 1; create: security 0 in currency 0, the rest unlisted
+    created (0 ∷ [])
     -- enter 1: account 1 buys 1,000 of security 0 from 2 at 10,500
     ++ hex "000e 01 0001 01 02 00 000003e8 00002904"
     -- enter 2: account 2 buys 400 from 3 at 10,600

@@ -21,3 +21,7 @@ pub mod Written
 pub mod Opened
 pub mod Figures
 pub mod Example
+pub mod Readings
+pub mod Ladders
+pub mod Orders
+pub mod Clauses

@@ -1,0 +1,3 @@
+-- Theorems by computation: worked examples of the source, damaged files.
+pub mod Source
+pub mod Damage

@@ -1,0 +1,1 @@
+// Theorems by computation about the rules: no code.
