@@ -1,3 +1,5 @@
--- Theorems by computation: worked examples of the source, damaged files.
+-- Theorems by computation about the rules: worked examples of the source documents, damaged files, lent bytes, lines.
 pub mod Source
 pub mod Damage
+pub mod Lent
+pub mod Lines

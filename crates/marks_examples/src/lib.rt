@@ -1,0 +1,1 @@
+// Theorems by computation about marks: no code.
