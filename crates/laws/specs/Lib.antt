@@ -17,6 +17,20 @@ pub mod Taking
 pub mod Rows
 pub mod Charging
 pub mod Meetings
+-- the settlement run: as the code walks it, and that this is the rule's
+pub mod Walk
+pub mod Merging
+pub mod Spare
+pub mod Giving
+pub mod ByNumber
+pub mod SidesOf
+pub mod RowMeeting
+pub mod Searching
+pub mod WalkIsRun
+-- what a run moves: all that is deliverable, refusal 13 never, nothing that is not held
+pub mod Deliveries
+pub mod Backed
+pub mod SoundRun
 -- the call file and the sheet
 pub mod Files
 pub mod Decimals
