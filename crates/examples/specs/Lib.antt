@@ -1,5 +1,5 @@
--- Theorems by computation about the rules: worked examples of the source documents, damaged files, lent bytes, lines.
+-- Theorems by computation about the rules: worked examples of the source documents, damaged files, effects that no line shows, lines.
 pub mod Source
 pub mod Damage
-pub mod Lent
+pub mod Effects
 pub mod Lines

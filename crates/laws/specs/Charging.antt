@@ -1,4 +1,4 @@
--- Charges: each account and currency has a chargeAt of its own, and what is charged for a record shows in its chargeAt alone. A record that
+-- Charges: each account and currency has a place of its own, and what is charged for a record shows in its place alone. A record that
 -- loses a part whose money is charged leaves charge and open money together as they were, and does not raise their sizes.
 use mathlib.Core.Path.{_≡_, refl, sym, ap, _∙_}
 use mathlib.Core.Bool.{Bool, true, false, cond, _&&_}

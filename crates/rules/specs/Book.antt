@@ -120,7 +120,7 @@ withDay k d =
 
 -- ── securities, holdings, charges ──
 
--- the currency of a security, 255 for unlisted
+-- the currency of a security, 255 for unlisted (asked of securities 0 to 31 only)
 unfoldable pub currencyOf : Book → ℕ → ℕ
 currencyOf k s = getD (k .currency) s 0
 

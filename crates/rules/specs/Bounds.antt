@@ -1,4 +1,5 @@
--- The numbers that document 01 fixes, each once. (Those of shares, money, prices, rates and haircuts are in units/specs/Units.)
+-- The counts and bounds of document 01. (Those of shares, money, prices, rates and haircuts are in units/specs/Units; formats spell out their
+-- own numbers.)
 use mathlib.Core.List.{List}
 use Prim.Native.Nat.{ℕ}
 use Rattle.exact.specs.MulDiv.{limit}
@@ -51,9 +52,12 @@ mostHeld = 1_000_000_000_000
 abbrev pub mostAtStake : ℕ
 mostAtStake = 2_621_440_000_000_000_000
 
--- a trade: shares
+-- shares of a trade; of a deposit or withdrawal
 abbrev pub mostTraded : ℕ
 mostTraded = 1_000_000
+
+abbrev pub mostDeposited : ℕ
+mostDeposited = 1_000_000_000_000
 
 -- marks: the base's rate, and the most that either converted total may be
 abbrev pub baseRate : ℕ

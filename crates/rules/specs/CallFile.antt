@@ -42,8 +42,8 @@ behindVersion [] = placed 1 unreadable ∷ []
 behindVersion (b ∷ bs) = recordsFrom 0 1 (b ∷ bs)
 
 -- 0 for the version
-unfoldable pub recordsOf : List ℕ → List Placed
-recordsOf file = let good = behindVersion (drop 1 file) in cond (otherVersion file) (placed 0 unreadable ∷ []) good
+unfoldable pub recordsIn : List ℕ → List Placed
+recordsIn file = let good = behindVersion (drop 1 file) in cond (otherVersion file) (placed 0 unreadable ∷ []) good
 
 -- what was read: the codes of the create, the calls behind it, and the byte place where an unreadable record begins
 pub record Contents : Type 0 where
@@ -61,11 +61,11 @@ contents [] = record { codes = none; calls = []; place = none }
 contents (r ∷ rs) = before r (r .says) (contents rs)
 
 unfoldable pub contentsOf : List ℕ → Contents
-contentsOf file = contents (recordsOf file)
+contentsOf file = contents (recordsIn file)
 
 -- ── the calls meet the book one after another ──
 
--- the answer to a record: its number, and its figure as above
+-- the answer to a record: its number, and its figure (shares moved, or the place of a 19; as Records.figureOfRecord)
 pub record Answer : Type 0 where
   pub number : ℕ
   pub figure : ℕ
@@ -75,51 +75,50 @@ pub record Played : Type 0 where
   pub answers : List Answer
   pub book : Option Book
 
--- by whatever function `number` answers a call (`answer`, or `answerSound`, which is the same on a sound book and quicker to compute)
-module _ (number : Book → Call → ℕ) where
-  unfoldable pub answered : Book → Call → Answer
-  answered k c = record { number = number k c; figure = cond (eqb (number k c) 0) (figure k c) 0 }
+unfoldable pub answered : Book → Call → Answer
+answered k c = record { number = answer k c; figure = cond (eqb (answer k c) 0) (figure k c) 0 }
 
-  -- a refused record leaves the book as it was
-  unfoldable pub left : Book → Call → Book
-  left k c = cond (eqb (number k c) 0) (after k c) k
+-- a refused record leaves the book as it was
+unfoldable pub left : Book → Call → Book
+left k c = cond (eqb (answer k c) 0) (after k c) k
 
-  unfoldable pub played : Book → List Call → Played
-  played k [] = record { answers = []; book = some k }
-  played k (c ∷ cs) = let r = played (left k c) cs in record { answers = answered k c ∷ r .answers; book = r .book }
+unfoldable pub played : Book → List Call → Played
+played k [] = record { answers = []; book = some k }
+played k (c ∷ cs) = let r = played (left k c) cs in record { answers = answered k c ∷ r .answers; book = r .book }
 
-  -- the create is the record of index 0; it is accepted and begins a new history
-  unfoldable pub playedFrom : Option (List ℕ) → List Call → Played
-  playedFrom none cs = record { answers = []; book = none }
-  playedFrom (some codes) cs =
-      let r = played (emptyBook codes) cs in
-      record { answers = record { number = 0; figure = 0 } ∷ r .answers; book = r .book }
+-- the create is the record of index 0; it is accepted and begins a new history
+unfoldable pub playedFrom : Option (List ℕ) → List Call → Played
+playedFrom none cs = record { answers = []; book = none }
+playedFrom (some codes) cs =
+    let r = played (emptyBook codes) cs in
+    record { answers = record { number = 0; figure = 0 } ∷ r .answers; book = r .book }
 
 -- A 19 is the answer of the unreadable record's own call, and its figure is the place; those before it stand.
 unfoldable pub nineteen : Option ℕ → List Answer
 nineteen none = []
 nineteen (some place) = record { number = 19; figure = place } ∷ []
 
-unfoldable pub fileBy : (Book → Call → ℕ) → List ℕ → Played
-fileBy number file =
-    let c = contentsOf file in
-    let p = playedFrom number (c .codes) (c .calls) in
-    record { answers = p .answers ++ nineteen (c .place); book = p .book }
-
 unfoldable pub fileOf : List ℕ → Played
-fileOf file = fileBy answer file
+fileOf file =
+    let c = contentsOf file in
+    let p = playedFrom (c .codes) (c .calls) in
+    record { answers = p .answers ++ nineteen (c .place); book = p .book }
 
 -- ── the whole file as one call: a book, a file and a lent buffer for the answers, 9 bytes each (number 1, figure 8) ──
 
 unfoldable pub answersOf : List ℕ → List ℕ
 answersOf file = each (λ a. digits 1 (a .number) ++ digits 8 (a .figure)) (fileOf file .answers)
 
--- 18, also where the answers do not fit; then nothing is altered
+-- 18, also where the answers do not fit; then nothing is altered. A file with a 19 is accepted here, and its last answer is the 19.
 unfoldable pub wholeRefused : List ℕ → List ℕ → List ℕ → Bool
 wholeRefused book file answers = fileRefused book file || above (length answers) (length (answersOf file))
 
 unfoldable pub wholeAnswer : List ℕ → List ℕ → List ℕ → ℕ
 wholeAnswer book file answers = cond (wholeRefused book file answers) 18 0
+
+-- how many bytes the answers take: zero when refused
+unfoldable pub wholeSize : List ℕ → List ℕ → List ℕ → ℕ
+wholeSize book file answers = cond (wholeRefused book file answers) 0 (length (answersOf file))
 
 -- the answers, and bytes beyond them stay
 unfoldable pub wholeAnswers : List ℕ → List ℕ → List ℕ → List ℕ

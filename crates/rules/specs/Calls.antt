@@ -8,7 +8,7 @@ use lib.ListN.{length, set}
 use lib.IntN.{ℤ, pos}
 use Rattle.units.specs.Units.{sharesOf, shares}
 use Rattle.rules.specs.Words.{all, above, outside, Test, first}
-use Rattle.rules.specs.Bounds.{securities, lastDay, mostRecords, mostTrades, mostHeld}
+use Rattle.rules.specs.Bounds.{securities, lastDay, mostRecords, mostTrades, mostHeld, mostDeposited}
 use Rattle.rules.specs.Book.{listOf, withList, withHoldings, heldBy, holdingAt, emptyBook}
 use Rattle.rules.specs.Layout.{bookLength, bookOf, bytesOf}
 use Rattle.rules.specs.Sound.{sound, notSound, isCode, totalHeld}
@@ -31,7 +31,7 @@ pub data Call : Type 0 where
 
 -- 4: deposit or withdrawal outside 1 to 10^12
 unfoldable pub badDeposit : ℕ → Bool
-badDeposit q = outside 1 mostHeld q
+badDeposit q = outside 1 mostDeposited q
 
 -- what enter and amend check of the fields alike
 unfoldable pub fieldTests : Book → Trade → List Test → List Test

@@ -7,6 +7,7 @@ use lib.ListN.{replicate, set}
 use lib.IntN.{ℤ, pos, negℤ}
 use Rattle.units.specs.Units.{mils}
 use Rattle.units.specs.declared.Mils.{Mils}
+use Rattle.rules.specs.Words.{each, from}
 use Rattle.rules.specs.Book.{withOpen, withDay, withList, withHoldings, withCharges, holdingAt, chargeAt, noPosition, noTrade, emptyBook}
 use Rattle.rules.specs.Sound.{sound}
 use Rattle.rules.specs.Opened.{everything}
@@ -108,7 +109,6 @@ unsounds =
     charge 0 0 (pos 2_621_440_000_000_000_001) base ∷
     charge 0 0 (pos 2_621_440_000_000_000_000) (opened (at 1 0 0 (pos 0) (negℤ (pos 1)) ∷ [])) ∷
     -- Trades: at most 256, numbers distinct and nonzero,
-    tradeTable 257 (replicate 256 noTrade) ∷
     traded (deal 1 1 2 0 1 1 ∷ deal 1 0 0 0 0 0 ∷ []) ∷
     traded (deal 0 1 2 0 1 1 ∷ []) ∷
     -- fields valid;
@@ -123,9 +123,23 @@ unsounds =
     -- an excluded one keeps its number and order, other fields zero.
     traded (deal 1 1 0 0 0 0 ∷ []) ∷
     traded (deal 1 0 0 0 0 1 ∷ []) ∷
+    -- unused room of the list
     tradeTable 0 (deal 1 1 2 0 1 1 ∷ replicate 255 noTrade) ∷
     []
 
-unsounds-are-not : map sound unsounds ≡ replicate 39 false
+unsounds-are-not : map sound unsounds ≡ replicate 38 false
 unfolding everything base opened held heldTwice charge traded tables positionTable tradeTable unsounds
 unsounds-are-not = refl
+
+-- ── counts: 1,024 records and 256 trades are sound, one more of either is not ──
+
+unfoldable counted : ℕ → ℕ → Book
+counted n m =
+    let k = bookWith (replicate 32 0) in
+    let full = each (λ a. map (λ s. at 1 a s (pos 0) (pos 1)) (from 0 32)) (from 0 32) in
+    let excluded = map (λ n. deal n 0 0 0 0 0) (from 1 256) in
+    record { day = 0; currency = k .currency; records = n; positions = full; holdings = k .holdings; charges = k .charges; entries = m; trades = excluded }
+
+counts-are : map sound (counted 1_024 256 ∷ counted 1_025 256 ∷ counted 1_024 257 ∷ []) ≡ true ∷ false ∷ false ∷ []
+unfolding everything counted
+counts-are = refl

@@ -63,7 +63,7 @@ favourableTotal k t ps = total (λ c. favourableOf (sumOf k t ps c) (rateOf t c)
 unfoldable pub unfavourableTotal : Book → Terms → List Position → ℕ
 unfavourableTotal k t ps = total (λ c. unfavourableOf (sumOf k t ps c) (rateOf t c) (haircutOf t c)) everyCurrency
 
--- Due: unfavourable total less favourable total, or 0. The answer has the due and four signed sums.
+-- Due: unfavourable total less favourable total, or 0 (subtraction in ℕ stops there). The answer has the due and four signed sums.
 unfoldable pub dueAndSums : Book → Terms → List Position → MarksAnswer
 dueAndSums k t ps =
     Due (mils (pos (unfavourableTotal k t ps - favourableTotal k t ps)))

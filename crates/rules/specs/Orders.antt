@@ -1,4 +1,4 @@
--- The order of refusals where document 01 gives one of its own (the price question, creation, the file; marks: the crate examples), and the
+-- The order of refusals where document 01 gives one of its own (the price question, creation, the file; marks: the crate marks_examples), and the
 -- refusals that no call file reaches: 1, 10 before 14, 13, 14. Each row: what the rules answer, and the number of document 01.
 use mathlib.Core.Path.{_≡_, refl}
 use mathlib.Core.List.{List, [], _∷_, _++_, map}

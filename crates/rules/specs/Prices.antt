@@ -23,8 +23,11 @@ unfoldable pub entryAbove : List ℕ → Bool
 entryAbove table = any (λ s. above topPrice (entryOf table s)) everySecurity
 
 -- The price is the intraday table's entry, or, if that is 0, the closing table's.
+unfoldable pub fromClosing : List ℕ → ℕ → Bool
+fromClosing intraday s = eqb (entryOf intraday s) 0
+
 unfoldable pub tableUsed : List ℕ → List ℕ → ℕ → List ℕ
-tableUsed intraday closing s = cond (eqb (entryOf intraday s) 0) closing intraday
+tableUsed intraday closing s = cond (fromClosing intraday s) closing intraday
 
 unfoldable pub priceOf : List ℕ → List ℕ → ℕ → ℕ
 priceOf intraday closing s = entryOf (tableUsed intraday closing s) s
@@ -50,9 +53,9 @@ unfoldable pub pricePart : List ℕ → List ℕ → ℕ → List ℕ
 pricePart intraday closing s =
     cond (eqb (priceAnswer intraday closing s) 0) (take 4 (drop (s * 4) (tableUsed intraday closing s))) []
 
--- where the part of an accepted question stands, if the tables begin at a and b (a place is a region and a byte in it)
-abbrev pub Place : Type 0
-Place = ℕ × ℕ
+-- where the part of an accepted question stands, if the tables begin at a and b (a spot is a region of memory and a byte in it)
+abbrev pub Spot : Type 0
+Spot = ℕ × ℕ
 
-unfoldable pub pricePlace : List ℕ → ℕ → Place → Place → Place
-pricePlace intraday s a b = cond (eqb (entryOf intraday s) 0) (b .0, s * 4 + b .1) (a .0, s * 4 + a .1)
+unfoldable pub priceSpot : List ℕ → ℕ → Spot → Spot → Spot
+priceSpot intraday s a b = cond (fromClosing intraday s) (b .0, s * 4 + b .1) (a .0, s * 4 + a .1)

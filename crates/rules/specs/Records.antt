@@ -84,6 +84,8 @@ inPlace place (create codes) = cond (eqb place 1 && all isCode codes) (create co
 inPlace place (call c) = cond (eqb place 1) unreadable (call c)
 inPlace place unreadable = unreadable
 
+-- A place is where the caller says that a record begins: 1, and then the next place of each answer. (No record can begin at 0: there the
+-- version byte makes its length 256 or more.)
 unfoldable pub recordAt : List ℕ → ℕ → Record
 recordAt file place = inPlace place (frontOf (drop place file))
 
@@ -91,7 +93,7 @@ recordAt file place = inPlace place (frontOf (drop place file))
 unfoldable pub otherVersion : List ℕ → Bool
 otherVersion file = not (eqb (getD file 0 0) 1)
 
--- ── one record, as a call of its own: a book, a file and a place ──
+-- ── one record, as a call of its own: a book, a file and a place. The version is looked at in every call ──
 
 -- File: 18, a wrong book length included.
 unfoldable pub tooLong : List ℕ → Bool
@@ -104,7 +106,7 @@ fileRefused book file = tooLong file || not (eqb (length book) bookLength)
 unfoldable pub pastEnd : List ℕ → ℕ → Bool
 pastEnd file place = above 1 place && leb (length file) place
 
--- the record's own answer, the shares that it moved, and the place of the next record
+-- the record's own answer, the shares that it moved, and the place of the next record, also where its call is refused
 unfoldable pub answerTo : List ℕ → ℕ → ℕ → Record → RecordAnswer
 answerTo book place next (create codes) = Answered 0 (shares (pos 0)) next
 answerTo book place next (call c) = Answered (answerBytes book c) (shares (pos (figureBytes book c))) next

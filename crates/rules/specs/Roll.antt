@@ -19,10 +19,11 @@ use Rattle.rules.specs.declared.Book.{Book}
 
 -- ── offsetting ──
 
--- per account and security: a newly due record p faces an older one o of the opposite direction
+-- one receives, the other delivers
 unfoldable pub opposite : Position → Position → Bool
 opposite p o = not (isZero (quantityOf p)) && (not (isZero (quantityOf o)) && not (Bool·beq (isNegative (quantityOf p)) (isNegative (quantityOf o))))
 
+-- per account and security: a newly due record p faces an older one o of the opposite direction
 unfoldable pub faces : Position → Position → Bool
 faces p o = samePair p o && opposite p o
 
@@ -36,9 +37,9 @@ pub record Offsetting : Type 0 where
   pub newly : Position
   pub charges : List Mils
 
--- an older record that stands before the others
-unfoldable pub behind : Position → Offsetting → Offsetting
-behind o x = record { older = o ∷ x .older; newly = x .newly; charges = x .charges }
+-- what came of the records behind o, with o in front of them
+unfoldable pub inFront : Position → Offsetting → Offsetting
+inFront o x = record { older = o ∷ x .older; newly = x .newly; charges = x .charges }
 
 -- While it faces opposite older records, take them by ascending number; the smaller remaining quantity is taken from both, each
 -- part's money is charged.
@@ -46,8 +47,8 @@ unfoldable pub against : Book → Position → List Position → List Mils → O
 against b p [] cs = record { older = []; newly = p; charges = cs }
 against b p (o ∷ os) cs =
     let k = smaller p o in
-    let met = behind (without o k) (against b (without p k) os (chargedBoth b cs o p k)) in
-    let passed = behind o (against b p os cs) in
+    let met = inFront (without o k) (against b (without p k) os (chargedBoth b cs o p k)) in
+    let passed = inFront o (against b p os cs) in
     cond (faces p o) met passed
 
 -- A newly due record of 0 shares charges all its money and goes. Otherwise it meets the older ones.
@@ -68,7 +69,7 @@ offsetAll b (p ∷ ps) os cs =
     let r = offsetAll b ps (x .older) (x .charges) in
     record { older = r .older; newly = x .newly ∷ r .newly; charges = r .charges }
 
--- A record at 0 shares goes, if it is due.
+-- A record at 0 shares goes; one that is not yet due keeps its money until it is.
 unfoldable pub remains : ℕ → Position → Bool
 remains day p = dueNonzero day p
 

@@ -25,7 +25,7 @@ unfoldable pub longOf : ℤ → ℕ
 longOf (pos n) = n
 longOf (negsuc n) = 0
 
--- the records of security s that are due on the day, by ascending number
+-- the records of security s that are due by the book's day, by ascending number
 unfoldable pub dueIn : Book → ℕ → List Position
 dueIn b s = keep (λ p. eqb (securityOf p) s && isDue (b .day) p) (openOf b)
 
@@ -80,7 +80,7 @@ leaving g k gs =
     let less : Side = record { number = g .number; account = g .account; shares = g .shares - k } in
     cond (eqb (g .shares) k) gs (less ∷ gs)
 
--- of the smaller of what the one has left to give and the other (r, who wants w more) still wants.
+-- of the smaller of what the one has left to give and the other (r, who wants w more) still wants. Nothing left to give: the search stops.
 unfoldable pub filled : Side → ℕ → List Side → Filled
 filled r w [] = record { meetings = []; left = [] }
 filled r w (g ∷ gs) =

@@ -11,9 +11,9 @@ use Rattle.rules.specs.Words.{each, text, above}
 use Rattle.rules.specs.Bounds.{everyAccount, everyCurrency, mostTally}
 use Rattle.rules.specs.Book.{isZero, accountOf, securityOf, openOf, chargeOf}
 use Rattle.rules.specs.Layout.{bookLength}
-use Rattle.rules.specs.Calls.{Call, answer}
+use Rattle.rules.specs.Prices.{Spot}
 use Rattle.rules.specs.Records.{tooLong}
-use Rattle.rules.specs.CallFile.{Answer, Played, fileBy, fileOf, bytesLeft}
+use Rattle.rules.specs.CallFile.{Answer, Played, fileOf, bytesLeft}
 use Rattle.rules.specs.declared.Position.{Position}
 use Rattle.rules.specs.declared.Book.{Book}
 use Rattle.rules.specs.declared.Tally.{Tally}
@@ -89,16 +89,14 @@ linesOf f = ended (answerLines 0 (f .answers) ++ bookLines (f .book))
 unfoldable pub refusedSheet : List Line
 refusedSheet = ended (Refusal 0 18 ∷ [])
 
-unfoldable pub sheetBy : (Book → Call → ℕ) → List ℕ → List ℕ
-sheetBy number file = each textOf (cond (tooLong file) refusedSheet (linesOf (fileBy number file)))
-
 -- The sheet of a call file.
 unfoldable pub sheetOf : List ℕ → List ℕ
-sheetOf file = sheetBy answer file
+sheetOf file = each textOf (cond (tooLong file) refusedSheet (linesOf (fileOf file)))
 
 -- ── the whole sheet as one call: a book's room, a file and a lent buffer ──
 
--- 18: the book's room has the wrong length, or the sheet doesn't fit; then nothing is altered
+-- 18: the book's room has the wrong length, or the sheet doesn't fit; then nothing is altered. A file past 65,535 bytes is not refused here:
+-- its sheet is R 0 18, E 1, and the book stays.
 unfoldable pub sheetRefused : List ℕ → List ℕ → List ℕ → Bool
 sheetRefused book file buffer = not (eqb (length book) bookLength) || above (length buffer) (length (sheetOf file))
 
@@ -128,6 +126,10 @@ lineAnswer room l t =
 -- The written part is handed back, an empty one where refused;
 unfoldable pub linePart : List ℕ → Line → Tally → List ℕ
 linePart buffer l t = cond (eqb (lineAnswer (length buffer) l t) 0) (textOf l) []
+
+-- which is the front of that buffer, refused or not (a spot is a region of memory and a byte in it);
+unfoldable pub lineSpot : Spot → Spot
+lineSpot buffer = buffer
 
 -- bytes beyond it stay.
 unfoldable pub lineBytes : List ℕ → Line → Tally → List ℕ

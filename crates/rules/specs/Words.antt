@@ -45,7 +45,7 @@ unfoldable pub first : List Test → ℕ
 first [] = 0
 first (t ∷ ts) = cond (t .0) (t .1) (first ts)
 
--- document 01's words for bounds
+-- `above top n`: n is above top; `outside low high n`: n is outside low to high
 abbrev pub above : ℕ → ℕ → Bool
 above top n = ltb top n
 

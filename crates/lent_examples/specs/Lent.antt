@@ -7,12 +7,12 @@ use lib.IntN.{ℤ, pos}
 use Rattle.units.specs.Units.{shares}
 use Rattle.rules.specs.Book.{emptyBook}
 use Rattle.rules.specs.Layout.{bookOf, bytesOf}
-use Rattle.rules.specs.Prices.{Place, pricePart, pricePlace}
+use Rattle.rules.specs.Prices.{pricePart, priceSpot}
 use Rattle.rules.specs.Calls.{deposit, withdraw, run, answerBytes, afterBytes, createBytes, runAnswer}
 use Rattle.rules.specs.Records.{recordAnswer, recordBytes}
 use Rattle.rules.specs.Example.{example}
 use Rattle.rules.specs.Opened.{everything}
-use Rattle.rules.specs.Written.{hex, bookWith}
+use Rattle.rules.specs.Written.{hex, created, bookWith}
 use Rattle.rules.specs.declared.RunAnswer.the-variants.{Moved, RunRefused}
 use Rattle.rules.specs.declared.RecordAnswer.{RecordAnswer}
 use Rattle.rules.specs.declared.RecordAnswer.the-variants.{Answered, Unreadable, Ended, FileRefused}
@@ -92,7 +92,7 @@ the-end : recordAnswer junk example 104 ≡ Ended
 unfolding everything junk
 the-end = refl
 
--- a record at another place is unreadable, and alters nothing
+-- no record begins at place 0, and nothing is altered
 no-record-there : recordAnswer junk example 0 ≡ Unreadable 0
 unfolding everything junk
 no-record-there = refl
@@ -100,6 +100,20 @@ no-record-there = refl
 stays : recordBytes junk example 0 ≡ junk
 unfolding everything junk
 stays = refl
+
+-- another version is unreadable whatever the place; a version alone is unreadable at place 1
+other-version : recordAnswer junk (hex "02 0001 04") 52 ≡ Unreadable 0
+unfolding everything junk
+other-version = refl
+
+version-alone : recordAnswer junk (hex "01") 1 ≡ Unreadable 1
+unfolding everything junk
+version-alone = refl
+
+-- a place is where the caller says that a record begins: inside this trade bought by account 4 a roll can be read
+inside : recordAnswer fresh (created (0 ∷ []) ++ hex "000e 01 0001 04 02 00 00000001 00000001") 39 ≡ answered 0 42
+unfolding everything fresh
+inside = refl
 
 wrong-book : recordAnswer (replicate 42_277 7) example 1 ≡ FileRefused 18
 unfolding everything
@@ -123,13 +137,13 @@ unfolding everything closing intraday
 from-intraday = refl
 
 -- tables that begin at byte 5 of region 1 and byte 9 of region 2
-closing-place : pricePlace intraday 0 (1, 5) (2, 9) ≡ (2, 9)
+closing-spot : priceSpot intraday 0 (1, 5) (2, 9) ≡ (2, 9)
 unfolding everything intraday
-closing-place = refl
+closing-spot = refl
 
-intraday-place : pricePlace intraday 1 (1, 5) (2, 9) ≡ (1, 9)
+intraday-spot : priceSpot intraday 1 (1, 5) (2, 9) ≡ (1, 9)
 unfolding everything intraday
-intraday-place = refl
+intraday-spot = refl
 
 nothing-there : pricePart intraday closing 31 ≡ []
 unfolding everything closing intraday

@@ -1,0 +1,1 @@
+// Theorems by computation about calls over lent bytes: no code.
