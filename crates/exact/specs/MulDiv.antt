@@ -1,8 +1,8 @@
 -- The quotient and the remainder of a * b by d, or that the quotient passes the limit.
-use mathlib.Core.Path.{_≡_, refl, sym, ap, _∙_, subst}
-use mathlib.Core.Bool.{Bool, true, false, not}
-use Prim.Native.Nat.{ℕ, zero, suc, _+_, _*_, _/_, _%_, _≤_, _<_, _^_}
-use native.Mathlib.Nat.{div-add-mod', mod-lt, mul-zero, zero-div, zero-mod, mul-le-mul-left, mul-le-mul-right, mul-le-mul, le-trans, lt-of-lt-of-le, lt-mul-div-succ, mul-div-le, div-mul-le-self, div-le-of-le-mul, le-div-iff-mul-le, div-lt-iff-lt-mul}
+use mathlib.Core.Path.{_≡_, refl, sym, ap, _∙_}
+use mathlib.Core.Bool.{Bool, true, false}
+use Prim.Native.Nat.{ℕ, _+_, _*_, _/_, _%_, _≤_, _<_}
+use native.Mathlib.Nat.{div-add-mod', mod-lt, mul-le-mul-left, mul-le-mul-right, le-trans, lt-of-lt-of-le, lt-mul-div-succ, mul-div-le, div-mul-le-self, le-div-iff-mul-le, div-lt-iff-lt-mul}
 use native.Mathlib.Omega.{arith}
 use lib.Dec.{leb, ltb}
 use lib.Arith.{digits-div, digits-mod}

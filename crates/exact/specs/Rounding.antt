@@ -4,9 +4,9 @@ use mathlib.Core.Bool.{Bool, true, false}
 use Prim.Native.Nat.{ℕ, zero, suc, _+_, _*_, _-_, _/_, _%_, _≤_, _<_}
 use native.Mathlib.Nat.{div-add-mod', mod-lt, le-trans, lt-of-lt-of-le, div-mul-le-self, le-div-iff-mul-le}
 use native.Mathlib.Omega.{arith}
-use lib.Dec.{leb, ltb}
+use lib.Dec.{leb}
 use lib.Arith.{digits-div}
-use borrow.Author.Tests.{le-leb, lt-leb, lt-ltb, le-ltb, ltb-true, ltb-false}
+use borrow.Author.Tests.{le-leb, lt-leb}
 use Rattle.exact.specs.MulDiv.{limit, mulDiv, big-is, done-is}
 use Rattle.exact.specs.declared.MulDiv.the-variants.{Done, TooBig}
 use Rattle.exact.specs.declared.Rounded.{Rounded}

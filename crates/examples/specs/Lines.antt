@@ -1,9 +1,9 @@
 -- Lines written into a lent buffer, with a tally: what fits, what does not, and what stays.
 use mathlib.Core.Path.{_≡_, refl}
-use mathlib.Core.List.{List, [], _∷_, _++_}
+use mathlib.Core.List.{[], _∷_, _++_}
 use Prim.Native.Nat.{ℕ}
 use lib.ListN.{replicate}
-use lib.IntN.{ℤ, pos, negℤ}
+use lib.IntN.{pos, negℤ}
 use Rattle.units.specs.Units.{mils}
 use Rattle.rules.specs.Words.{text}
 use Rattle.rules.specs.Sheet.{textOf, lineAnswer, linePart, lineBytes, lineTally}

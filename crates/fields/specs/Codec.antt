@@ -4,11 +4,11 @@
 use mathlib.Core.Path.{_≡_, refl, sym, ap, ap₂, _∙_}
 use mathlib.Core.List.{List, [], _∷_, _++_, append-assoc, append-nil}
 use Prim.Native.Nat.{ℕ, zero, suc, _+_, _*_, _^_, _-_, _<_, _≤_}
-use native.Mathlib.Nat.{add-zero, zero-add, add-assoc, zero-mul, suc-mul, le-of-lt}
+use native.Mathlib.Nat.{zero-add, zero-mul, suc-mul, le-of-lt}
 use native.Mathlib.Omega.{arith}
 use native.Mathlib.Numerals.{add-one}
-use lib.ListN.{length, getD, take, drop, set, length-append, length-drop, take-append-drop}
-use lib.Seq.{take-suc, take-add, drop-drop, drop-cons, take-all, set-at, take-length, drop-length, append-snoc, length-take-le, take-suc-set, getD-drop, drop-at}
+use lib.ListN.{length, getD, take, drop, set, length-append, length-drop}
+use lib.Seq.{take-suc, take-add, drop-drop, take-all, length-take-le, take-suc-set, getD-drop, drop-at}
 use Rattle.fields.specs.Field.{field, digits, stored, Bytes}
 use Rattle.fields.specs.FieldLaws.{length-digits, field-lt, digits-field, field-digits, stored-none, stored-behind, stored-front, after}
 

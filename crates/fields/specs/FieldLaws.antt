@@ -2,11 +2,10 @@
 use mathlib.Core.Path.{_≡_, refl, sym, ap, ap₂, _∙_}
 use mathlib.Core.List.{List, [], _∷_, _++_, append-assoc, append-nil}
 use Prim.Native.Nat.{ℕ, zero, suc, _+_, _*_, _/_, _%_, _^_, _-_, _<_, _≤_}
-use native.Mathlib.Nat.{pow-succ', pow-le-pow-right, mod-lt, add-zero, add-suc, suc-add, zero-add, div-add-mod', zero-lt-suc}
+use native.Mathlib.Nat.{pow-succ', pow-le-pow-right, add-zero, add-suc, suc-add, zero-add}
 use native.Mathlib.Omega.{arith}
 use native.Mathlib.Numerals.{add-one}
-use lib.Arith.{digits-mod, digits-div}
-use lib.ListN.{length, getD, take, drop, set, length-append, length-take, length-drop, take-append-drop}
+use lib.ListN.{length, getD, take, drop, set, length-append, length-drop}
 use lib.Seq.{take-suc, getD-drop, getD-at, sets, sets-eq, length-sets, set-comm, drop-length, drop-at}
 use Rattle.fields.specs.Field.{field, digits, stored, Bytes}
 

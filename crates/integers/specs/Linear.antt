@@ -1,18 +1,18 @@
 -- Linear facts over ℤ, as facts over ℕ that `omega` reads. No expression is written a second time:
 --     simp zlin (omega (arith, zarith))      proves an equation or an order between sums, differences, negations and multiples of integers.
---                                            `zarith` (`Zlin`) lets omega read the hypotheses that are flat: `r ≡ a +ℤ b`, `r ≡ a -ℤ b`, `r ≡ negℤ a`, `a ≡ b`, `a ≤ℤ b`, `a <ℤ b`
+--                                            `zarith` (`Sides`) lets omega read the hypotheses that are flat: `r ≡ a +ℤ b`, `r ≡ a -ℤ b`, `r ≡ negℤ a`, `a ≡ b`, `a ≤ℤ b`, `a <ℤ b`
 --     simp zlin at h                         a hypothesis of any depth, for omega's list: omega (arith, zarith, simp zlin at h)
 --     simp zabs (omega (arith, zarith))      the same with goals `natAbs e ≤ k` and `natAbs e < k`; list `sides x` for each x of which a bound `natAbs x ≤ k` is known
 -- An integer x that is no sum, difference, negation or multiple stands in the result by its two sides, `up x` and `dn x`.
 -- `simp` takes the first rule of a list that fits, so `any` stands last of its kind.
-use mathlib.Core.Path.{_≡_, refl, sym, ap, _∙_}
+use mathlib.Core.Path.{_≡_, refl, sym}
 use mathlib.Core.Logic.{_↔_}
 use mathlib.Core.List.{List, [], _∷_}
-use Prim.Native.Nat.{ℕ, zero, suc, _+_, _*_, _≤_, _<_}
+use Prim.Native.Nat.{ℕ, _+_, _*_, _≤_, _<_}
 use native.Mathlib.Omega.{arith}
-use lib.IntN.{ℤ, pos, negsuc, negℤ, natAbs, _+ℤ_, _-ℤ_, _*ℤ_}
+use lib.IntN.{ℤ, pos, negℤ, natAbs, _+ℤ_, _-ℤ_, _*ℤ_}
 use lib.Signed.{_≤ℤ_, _<ℤ_}
-use Rattle.integers.specs.Sides.{Lin, v, neg, _⊕_, _⊛_, fact, up, dn, eq-nat, nat-eq, le-sides, sides-le, lt-sides, sides-lt, sides, one-side, zarith}
+use Rattle.integers.specs.Sides.{v, neg, _⊕_, _⊛_, fact, up, dn, eq-nat, nat-eq, le-sides, sides-le, lt-sides, sides-lt, sides, one-side, zarith}
 
 pub data Kind : Type 0 where
   eq le lt : Kind
@@ -137,24 +137,24 @@ abs-lt-iff x m = (
 
 pub ruleset zabs = (abs-lt-iff, abs-le-iff, zlin)
 
--- ---- tries
-try₁ : (a b c : ℤ) → (a +ℤ b) -ℤ c ≡ (b -ℤ c) +ℤ a
-try₁ a b c = simp zlin (omega arith)
+-- ---- the forms, each checked: an identity, hypotheses flat and deep, multiples, an order, a size
+identity : (a b c : ℤ) → (a +ℤ b) -ℤ c ≡ (b -ℤ c) +ℤ a
+identity a b c = simp zlin (omega arith)
 
-try₂ : (a b c d e f g h : ℤ) → ((a +ℤ b) -ℤ (c -ℤ d)) +ℤ ((e +ℤ f) -ℤ (g +ℤ h)) ≡ (negℤ (g -ℤ (a +ℤ d)) +ℤ (b +ℤ f)) -ℤ ((c +ℤ h) -ℤ e)
-try₂ a b c d e f g h = simp zlin (omega arith)
+telescope : (a b c d e f g h : ℤ) → ((a +ℤ b) -ℤ (c -ℤ d)) +ℤ ((e +ℤ f) -ℤ (g +ℤ h)) ≡ (negℤ (g -ℤ (a +ℤ d)) +ℤ (b +ℤ f)) -ℤ ((c +ℤ h) -ℤ e)
+telescope a b c d e f g h = simp zlin (omega arith)
 
-try₃ : (a b c d : ℤ) → c ≡ a +ℤ b → a ≡ c -ℤ d → d ≡ b
-try₃ a b c d h k = simp zlin (omega (arith, zarith))
+from-flat : (a b c d : ℤ) → c ≡ a +ℤ b → a ≡ c -ℤ d → d ≡ b
+from-flat a b c d h k = simp zlin (omega (arith, zarith))
 
-try₄ : (a b c d : ℤ) → c +ℤ d ≡ a +ℤ (b -ℤ pos 7) → (a +ℤ b) -ℤ (c +ℤ d) ≡ pos 7
-try₄ a b c d h = simp zlin (omega (arith, simp zlin at h))
+from-deep : (a b c d : ℤ) → c +ℤ d ≡ a +ℤ (b -ℤ pos 7) → (a +ℤ b) -ℤ (c +ℤ d) ≡ pos 7
+from-deep a b c d h = simp zlin (omega (arith, simp zlin at h))
 
-try₅ : (a b c : ℤ) (k : ℕ) → (a +ℤ b -ℤ c) *ℤ pos k +ℤ c *ℤ pos k ≡ b *ℤ pos k +ℤ a *ℤ pos k
-try₅ a b c k = simp zlin (omega arith)
+multiples : (a b c : ℤ) (k : ℕ) → (a +ℤ b -ℤ c) *ℤ pos k +ℤ c *ℤ pos k ≡ b *ℤ pos k +ℤ a *ℤ pos k
+multiples a b c k = simp zlin (omega arith)
 
-try₆ : (a b c : ℤ) → a ≤ℤ b → (a +ℤ c) <ℤ ((b +ℤ c) +ℤ pos 1)
-try₆ a b c h = simp zlin (omega (arith, zarith))
+ordered : (a b c : ℤ) → a ≤ℤ b → (a +ℤ c) <ℤ ((b +ℤ c) +ℤ pos 1)
+ordered a b c h = simp zlin (omega (arith, zarith))
 
-try₇ : (a b : ℤ) → natAbs a ≤ 100 → natAbs b ≤ 50 → natAbs ((a -ℤ b) +ℤ a *ℤ pos 3) ≤ 450
-try₇ a b h k = simp zabs (omega (arith, sides a, sides b))
+sized : (a b : ℤ) → natAbs a ≤ 100 → natAbs b ≤ 50 → natAbs ((a -ℤ b) +ℤ a *ℤ pos 3) ≤ 450
+sized a b h k = simp zabs (omega (arith, sides a, sides b))

@@ -7,7 +7,7 @@
 --     sides x, one-side x       natAbs x ≡ up x + dn x; min (up x) (dn x) ≡ 0
 -- `_≤ℤ_` binds tighter than `_+ℤ_`: write `(a +ℤ b) ≤ℤ c`.
 use mathlib.Core.Path.{_≡_, refl, sym, ap, _∙_}
-use Prim.Native.Nat.{ℕ, zero, suc, _+_, _*_, _-_, _≤_, _<_, min}
+use Prim.Native.Nat.{ℕ, suc, _+_, _*_, _-_, _≤_, _<_, min}
 use native.Mathlib.Nat.{add-zero, zero-add}
 use native.Mathlib.Omega.{arith}
 use lib.IntN.{ℤ, pos, negsuc, negℤ, natAbs, _+ℤ_, _-ℤ_, _*ℤ_, +ℤ-assoc, +ℤ-comm, +ℤ-invl, +ℤ-negℤ-cancel}

@@ -1,4 +1,4 @@
--- Sums of integers over lists: `sumBy f l` is f of each element, summed. Each law is one induction whose step is linear (`Zlin`).
+-- Sums of integers over lists: `sumBy f l` is f of each element, summed. Each law is one induction whose step is linear (`Linear`).
 use mathlib.Core.Path.{_≡_, refl, sym, ap, _∙_}
 use mathlib.Core.List.{List, [], _∷_, _++_, map, List·Permᴰ, Perm, List·Permᴰ·nil, List·Permᴰ·cons, List·Permᴰ·swap, List·Permᴰ·trans}
 use mathlib.Core.Logic.{∥∥₁-elim, _≢_}
@@ -8,8 +8,8 @@ use Prim.Native.Nat.{ℕ, zero, suc, _+_, _*_, _≤_, _<_, zero-le, suc-le-suc}
 use native.Mathlib.Nat.{le-of-suc-le-suc}
 use native.Mathlib.Numerals.{add-one}
 use native.Mathlib.Omega.{arith}
-use lib.ListN.{length, getD, take, drop, set, replicate, length-set}
-use lib.IntN.{ℤ, pos, negsuc, negℤ, natAbs, _+ℤ_, _-ℤ_, ℤ-set}
+use lib.ListN.{length, getD, take, set, replicate, length-set}
+use lib.IntN.{ℤ, pos, negℤ, natAbs, _+ℤ_, _-ℤ_, ℤ-set}
 use Rattle.integers.specs.Sizes.{natAbs-sum}
 
 module _ {A : Type 0} where

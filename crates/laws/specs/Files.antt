@@ -1,11 +1,11 @@
 -- The records of a call file from place to place: what the definition over the bytes says at a place of the file.
-use mathlib.Core.Path.{_≡_, refl, sym, ap, ap₂, _∙_}
+use mathlib.Core.Path.{_≡_, refl, sym, ap, _∙_}
 use mathlib.Core.List.{List, [], _∷_}
 use Prim.Native.Nat.{ℕ, zero, suc, _+_}
-use native.Mathlib.Nat.{add-zero, add-suc, suc-add}
+use native.Mathlib.Nat.{add-zero}
 use native.Mathlib.Omega.{arith}
 use lib.ListN.{drop}
-use Rattle.rules.specs.CallFile.{Placed, recordsFrom}
+use Rattle.rules.specs.CallFile.{recordsFrom}
 
 -- skipping the bytes of the record before is reading from the place behind them
 pub records-skip : (skip place : ℕ) (bs : List ℕ) → recordsFrom skip place bs ≡ recordsFrom 0 (place + skip) (drop skip bs)

@@ -3,12 +3,12 @@ use mathlib.Core.Path.{_≡_, refl}
 use mathlib.Core.List.{List, [], _∷_, _++_}
 use Prim.Native.Nat.{ℕ}
 use lib.ListN.{replicate, take, drop}
-use lib.IntN.{ℤ, pos}
+use lib.IntN.{pos}
 use Rattle.units.specs.Units.{shares}
 use Rattle.rules.specs.Book.{emptyBook}
 use Rattle.rules.specs.Layout.{bookOf, bytesOf}
 use Rattle.rules.specs.Prices.{pricePart, priceSpot}
-use Rattle.rules.specs.Calls.{deposit, withdraw, run, answerBytes, afterBytes, createBytes, runAnswer}
+use Rattle.rules.specs.Calls.{deposit, withdraw, answerBytes, afterBytes, createBytes, runAnswer}
 use Rattle.rules.specs.Records.{recordAnswer, recordBytes}
 use Rattle.rules.specs.Example.{example}
 use Rattle.rules.specs.Opened.{everything}

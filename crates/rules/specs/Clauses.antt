@@ -1,14 +1,13 @@
 -- Each sentence of "A sound book": books at its edge that are sound, and books that break this sentence alone.
 use mathlib.Core.Path.{_≡_, refl}
-use mathlib.Core.Bool.{Bool, true, false}
+use mathlib.Core.Bool.{true, false}
 use mathlib.Core.List.{List, [], _∷_, _++_, map}
-use Prim.Native.Nat.{ℕ, _*_}
+use Prim.Native.Nat.{ℕ}
 use lib.ListN.{replicate, set}
 use lib.IntN.{ℤ, pos, negℤ}
 use Rattle.units.specs.Units.{mils}
-use Rattle.units.specs.declared.Mils.{Mils}
 use Rattle.rules.specs.Words.{each, from}
-use Rattle.rules.specs.Book.{withOpen, withDay, withList, withHoldings, withCharges, holdingAt, chargeAt, noPosition, noTrade, emptyBook}
+use Rattle.rules.specs.Book.{withOpen, withDay, withList, withHoldings, withCharges, holdingAt, chargeAt, noPosition, noTrade}
 use Rattle.rules.specs.Sound.{sound}
 use Rattle.rules.specs.Opened.{everything}
 use Rattle.rules.specs.Written.{at, deal, bookWith}

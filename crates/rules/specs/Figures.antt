@@ -1,7 +1,7 @@
 -- Figures to be proved, as one table (document 01, the section of that name).
 use mathlib.Core.Path.{_≡_, refl}
 use mathlib.Core.List.{List, [], _∷_, _++_, map}
-use lib.IntN.{ℤ, pos, negℤ}
+use lib.IntN.{pos, negℤ}
 use Rattle.units.specs.Figures.{Figure, parts, conversions}
 use Rattle.rules.specs.Book.{quantityOf, moneyOf}
 use Rattle.rules.specs.Nets.{netOf}

@@ -7,7 +7,7 @@ use lib.IntN.{ℤ}
 use lib.Signed.{mag}
 use Rattle.integers.specs.Bits.{bitsOf, valueOf, bits-below, value-bits, bits-value, value-fits}
 use Rattle.fields.specs.Codec.{Codec, number, then, via, rows}
-use Rattle.units.specs.Units.{sharesOf, milsOf, shares, mils}
+use Rattle.units.specs.Units.{milsOf, shares, mils}
 use Rattle.units.specs.declared.Mils.{Mils}
 use Rattle.rules.specs.Book.{quantityOf, moneyOf}
 use Rattle.rules.specs.declared.Position.{Position}

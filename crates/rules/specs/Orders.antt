@@ -4,7 +4,7 @@ use mathlib.Core.Path.{_≡_, refl}
 use mathlib.Core.List.{List, [], _∷_, _++_, map}
 use Prim.Native.Nat.{ℕ}
 use lib.ListN.{replicate, set}
-use lib.IntN.{ℤ, pos, negℤ}
+use lib.IntN.{pos, negℤ}
 use Rattle.rules.specs.Words.{each, from}
 use Rattle.rules.specs.Book.{withOpen, withDay, withList, withHoldings, holdingAt}
 use Rattle.rules.specs.Layout.{bytesOf}

@@ -4,7 +4,7 @@ use mathlib.Core.List.{List, [], _∷_, _++_}
 use Prim.Native.Nat.{ℕ, _+_, _*_, min}
 use lib.Dec.{eqb, ltb}
 use lib.ListN.{length, replicate}
-use lib.IntN.{ℤ, pos, natAbs}
+use lib.IntN.{pos, natAbs}
 use Rattle.integers.specs.Signs.{isNegative}
 use Rattle.units.specs.Units.{mils}
 use Rattle.units.specs.declared.Mils.{Mils}

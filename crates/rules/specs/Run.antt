@@ -1,5 +1,5 @@
 -- The settlement run, for one security (document 01, "Settlement run"): who gives and who receives, how they meet, what the meetings do.
-use mathlib.Core.Bool.{Bool, cond, _&&_}
+use mathlib.Core.Bool.{cond, _&&_}
 use mathlib.Core.List.{List, [], _∷_, _++_, map}
 use Prim.Native.Nat.{ℕ, suc, _+_, _-_, min}
 use lib.Dec.{eqb, ltb}

@@ -1,11 +1,11 @@
 -- A sound book (document 01, the section of that name): its sentences in their order, and their conjunction.
 -- The lengths of the five tables come with the type of the book: 32, 1,024, 2,048, 256 and 256.
-use mathlib.Core.Bool.{Bool, true, false, not, _&&_, _||_, Bool·beq}
+use mathlib.Core.Bool.{Bool, true, not, _&&_, _||_, Bool·beq}
 use mathlib.Core.List.{List, [], _∷_, map}
 use Prim.Native.Nat.{ℕ, zero, suc, _+_}
 use lib.Dec.{eqb, leb, ltb}
 use lib.ListN.{length, getD, take, drop, replicate}
-use lib.IntN.{ℤ, pos, natAbs}
+use lib.IntN.{pos, natAbs}
 use Rattle.integers.specs.Signs.{isNegative}
 use Rattle.integers.specs.Sums.{sumBy}
 use Rattle.units.specs.Units.{milsOf, mils, mostShares, mostMils}

@@ -1,7 +1,7 @@
 -- How a conversion is computed: by the sum's size and the product of rate and haircut factor.
 use mathlib.Core.Path.{_≡_, refl, sym, ap, _∙_}
 use mathlib.Core.Bool.{true, false}
-use Prim.Native.Nat.{ℕ, suc, _+_, _*_, _-_, _≤_, _<_}
+use Prim.Native.Nat.{ℕ, suc, _+_, _*_, _-_, _≤_}
 use native.Mathlib.Nat.{le-trans, mul-le-mul, mul-assoc, mul-comm}
 use native.Mathlib.Omega.{arith}
 use lib.Dec.{lit≤}

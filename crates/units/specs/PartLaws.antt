@@ -1,12 +1,11 @@
 -- Laws of the part, which everything above uses in the place of its text: the part for all shares is the whole money; a part
 -- has the money's sign and at most its size; what stays and what goes add up, in size too.
 use mathlib.Core.Path.{_≡_, refl, sym, ap, _∙_}
-use mathlib.Core.Bool.{Bool}
 use Prim.Native.Nat.{ℕ, zero, suc, _+_, _*_, _-_, _/_, _%_, _≤_, _<_}
 use native.Mathlib.Nat.{zero-div, mul-div-cancel, div-le-of-le-mul, div-mul-le-self, mul-le-mul-left, mul-le-mul, mul-comm, div-add-mod', mul-add-div-right, mod-lt, le-trans}
 use native.Mathlib.Omega.{arith}
 use lib.Dec.{lit≤}
-use lib.IntN.{ℤ, pos, negsuc, negℤ, natAbs, _+ℤ_, _-ℤ_, _*ℤ_}
+use lib.IntN.{ℤ, pos, negsuc, negℤ, natAbs, _+ℤ_, _-ℤ_}
 use lib.Signed.{quotZ}
 use Rattle.integers.specs.Linear.{zlin}
 use Rattle.integers.specs.Signs.{isNegative, signed, natAbs-signed, signed-abs, signed-diff}

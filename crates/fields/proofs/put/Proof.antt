@@ -1,9 +1,9 @@
 -- `fields::put` meets its contract: the stores that are left, of the digits that are left, make what the contract says.
 use borrow.Author.Needs.{needs}
-use mathlib.Core.Path.{_≡_, refl, sym, ap, _∙_}
-use Prim.Native.Nat.{ℕ, zero, suc, _+_, _*_, _≤_, _-_, _/_, _%_}
+use mathlib.Core.Path.{_≡_, _∙_}
+use Prim.Native.Nat.{_≤_, _-_}
 use native.Mathlib.Omega.{arith}
-use lib.ListN.{length, set, length-set}
+use lib.ListN.{length, length-set}
 use Rattle.fields.specs.Field.{digits, stored}
 use Rattle.fields.specs.FieldLaws.{put-more, put-done}
 use Rattle.fields.proofs.put.Statement.{statement}

@@ -3,7 +3,6 @@ use borrow.Author.Needs.{needs}
 use mir.Syntax.{w64}
 use mir.Facts.{toZ-ofZ, toZ-pos}
 use native.Mathlib.Omega.{arith}
-use Prim.Native.Nat.{_<_, _^_}
 use Rattle.units.proofs.Raw.{fit, fit-mul, mul-bound}
 use mathlib.Core.Path.{refl}
 use Rattle.units.proofs.Whole.times.Statement.{statement}
