@@ -31,6 +31,18 @@ pub mod WalkIsRun
 pub mod Deliveries
 pub mod Backed
 pub mod SoundRun
+-- an accepted call keeps the book sound: its clauses, what was passed, its lengths, its list, its holdings; so does creation
+pub mod SoundParts
+pub mod Accepted
+pub mod Shaped
+pub mod Tables
+pub mod KeptLists
+pub mod Totals
+pub mod KeptHoldings
+pub mod Empty
+-- what is stored is read back
+pub mod Fitting
+pub mod ReadBack
 -- the call file and the sheet
 pub mod Files
 pub mod Decimals
