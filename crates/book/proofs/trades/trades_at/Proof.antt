@@ -1,0 +1,72 @@
+-- `book::trades::trades_at` meets its contract. The invariant: the first i rows are those that the layout reads. Assumes nothing.
+use borrow.Author.Needs.{needs}
+use native.Mathlib.Omega.{arith}
+use mathlib.Core.Path.{_≡_, refl}
+use Prim.Native.Nat.{_≤_, _-_}
+use lib.ListN.{length, take, drop, length-set}
+use Rattle.fields.specs.Codec.{readRows, read-none, read-more, read-done}
+use Rattle.rules.specs.Layout.{trade}
+use Rattle.book.specs.Places.{tradesPlace}
+use Rattle.book.proofs.trades.trades_at.Statement.{statement}
+use Rattle.book.proofs.trades.trades_at.Tie as tie
+
+abbrev Inv-loop : tie.InvT-loop
+Inv-loop b t₀ i₀ t i = (i ≤ 256) × ((length t ≡ 256) × (take i t ≡ readRows trade i (drop tradesPlace b)))
+
+abbrev μ-loop : tie.MeasureT-loop
+μ-loop b t₀ i₀ t i = 256 - i
+
+loop-holds : tie.Need-loop-holds Inv-loop μ-loop
+loop-holds c = (omega arith, (refl, read-none trade _))
+
+mul-trade-at : tie.Need-mul-trade-at Inv-loop μ-loop
+mul-trade-at c = search needs
+
+add-trade-at : tie.Need-add-trade-at Inv-loop μ-loop
+add-trade-at c = search needs
+
+trade-at-requires : tie.Need-trade-at-requires Inv-loop μ-loop
+trade-at-requires c κs = search needs
+
+mul-t : tie.Need-mul-t Inv-loop μ-loop
+mul-t c = search needs
+
+array-set-from-t : tie.Need-array-set-from-t Inv-loop μ-loop
+array-set-from-t c = search needs
+
+add-i : tie.Need-add-i Inv-loop μ-loop
+add-i c = search needs
+
+loop-less : tie.Need-loop-less Inv-loop μ-loop
+loop-less c = search needs
+
+loop-again : tie.Need-loop-again Inv-loop μ-loop
+loop-again c =
+    let l = c .before .before .loop in (
+      omega arith,
+      (
+        simp length-set (l .inv .1 .0),
+        read-more trade (l .i) tradesPlace _ (l .t) _ (omega arith) (l .inv .1 .1)
+            (c .trade-at .ensures),
+      ),
+    )
+
+returns : tie.Need-returns Inv-loop μ-loop
+returns c = let l = c .before .loop in read-done trade 256 (l .i) _ _ (l .inv .1 .0) (omega arith) (l .inv .1 .1)
+
+pub trades-at-spec : {M : Type 1} → statement M
+trades-at-spec =
+    tie.close
+    (tie.spec
+    Inv-loop
+    μ-loop
+    loop-holds
+    mul-trade-at
+    add-trade-at
+    trade-at-requires
+    mul-t
+    array-set-from-t
+    add-i
+    loop-less
+    loop-again
+    returns)

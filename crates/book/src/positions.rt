@@ -1,0 +1,74 @@
+// The position table: 1,024 rows of a position number, shares and money.
+use crate::layout::POSITION_BYTES;
+use crate::layout::POSITIONS;
+use fields::get;
+use fields::put;
+use rules::Position;
+use units::Mils;
+use units::Shares;
+use units::Whole;
+ghost use mathlib.Core.Path.{_≡_};
+ghost use Prim.Native.Nat.{_+_, _≤_};
+ghost use lib.ListN.{length, drop};
+ghost use Rattle.fields.specs.Field.{stored};
+ghost use Rattle.fields.specs.Codec.{readRows, writeRows};
+ghost use Rattle.rules.specs.Layout.{position, bookLength};
+ghost use Rattle.book.specs.Places.{positionsPlace};
+
+// The row that begins at a byte: its number in 4 bytes, its shares and its money in 8 each.
+fn position_at(b: &[u8], at: usize) -> Position
+    requires { ⌜ at + 20 ≤ length (now b) ⌝ }
+    ensures { λ r. ⌜ r ≡ position .read (drop at (now (b .entry))) ⌝ }
+{
+    let number = get(b, at, 4) as u32;
+    let quantity = Shares::from_bits(get(b, at + 4, 8));
+    let money = Mils::from_bits(get(b, at + 12, 8));
+    Position {
+        number: number,
+        quantity: quantity,
+        money: money,
+    }
+}
+
+// All rows, used or not: whether the unused ones are zero is a question of soundness, and a book that is lent may hold anything.
+pub(crate) fn positions_at(b: &[u8]) -> [Position; 1024]
+    requires { ⌜ length (now b) ≡ bookLength ⌝ }
+    ensures { λ r. ⌜ r ≡ readRows position 1_024 (drop positionsPlace (now (b .entry))) ⌝ }
+{
+    let none = Position {
+        number: 0,
+        quantity: Shares(Whole(0)),
+        money: Mils(Whole(0)),
+    };
+    let mut t = [none; 1024];
+    let mut i: usize = 0;
+    while i < 1024 {
+        t[i] = position_at(b, POSITIONS + i * POSITION_BYTES);
+        i += 1;
+    }
+    t
+}
+
+// Each field is written where the one before it ends.
+fn put_position(p: Position, b: &mut [u8], at: usize)
+    requires { ⌜ at + 20 ≤ length (now b) ⌝ }
+    ensures { λ _. ⌜ now (b .exit) ≡ stored (now (b .entry)) at (position .write p) ⌝ }
+{
+    let quantity = p.quantity;
+    let money = p.money;
+    put(b, at, 4, p.number as u64);
+    put(b, at + 4, 8, quantity.bits());
+    put(b, at + 12, 8, money.bits());
+}
+
+pub(crate) fn put_positions(t: [Position; 1024], b: &mut [u8])
+    requires { ⌜ length (now b) ≡ bookLength ⌝ }
+    ensures { λ _. ⌜ now (b .exit) ≡ stored (now (b .entry)) positionsPlace (writeRows position t) ⌝ }
+{
+    let mut i: usize = 0;
+    while i < 1024 {
+        let p = t[i];
+        put_position(p, b, POSITIONS + i * POSITION_BYTES);
+        i += 1;
+    }
+}
