@@ -5,7 +5,7 @@ use mathlib.Core.List.{List, [], _∷_, _++_, map}
 use Prim.Native.Nat.{ℕ, zero, suc, _+_, _<_, _≤_, zero-le, suc-le-suc}
 use native.Mathlib.Omega.{arith}
 use lib.Dec.{ltb}
-use lib.ListN.{length, getD}
+use lib.ListN.{length, getD, set}
 use borrow.Author.Tests.{lt-ltb}
 use Rattle.rules.specs.Words.{all, each, from}
 use Rattle.rules.specs.Bounds.{accounts, securities, currencies, everyAccount, everySecurity, everyCurrency}
@@ -59,6 +59,13 @@ module _ {A : Type 0} where
   unfolding all
   all-right t [] m a = a
   all-right t (x ∷ l) m a = all-right t l m (both-hold (t x) (all t (l ++ m)) a .1)
+
+  -- one element is replaced
+  pub all-set : (t : A → Bool) (l : List A) (i : ℕ) (a : A) → all t l ≡ true → t a ≡ true → all t (set l i a) ≡ true
+  unfolding all
+  all-set t [] i a h e = refl
+  all-set t (x ∷ l) zero a h e = and-hold e (both-hold (t x) (all t l) h .1)
+  all-set t (x ∷ l) (suc i) a h e = let p = both-hold (t x) (all t l) h in and-hold (p .0) (all-set t l i a (p .1) e)
 
 -- ── lists made of the elements of a list ──
 

@@ -116,7 +116,7 @@ sum-sides (p ∷ ps) =
 zero-sides : (m n : ℕ) → pos m -ℤ pos n ≡ pos 0 → m ≡ n
 zero-sides m n e = omega (arith, simp zlin at e)
 
-all-from : (t : ℕ → Bool) (i n j : ℕ) → all t (from i n) ≡ true → i ≤ j → j < i + n → t j ≡ true
+pub all-from : (t : ℕ → Bool) (i n j : ℕ) → all t (from i n) ≡ true → i ≤ j → j < i + n → t j ≡ true
 unfolding all from
 all-from t i zero j a l h = absurd (omega arith)
 all-from t i (suc n) j a l h =

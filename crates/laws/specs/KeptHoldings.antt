@@ -18,8 +18,8 @@ use Rattle.rules.specs.Calls.{deposit, withdraw, after, answerSound}
 use Rattle.rules.specs.declared.Book.{Book}
 use Rattle.laws.specs.Cases.{both-hold, and-hold}
 use Rattle.laws.specs.Walks.{all-at}
-use Rattle.laws.specs.All.{all-by-index}
-use Rattle.laws.specs.Tables.{all-with, groups-length}
+use Rattle.laws.specs.All.{all-by-index, all-set}
+use Rattle.laws.specs.Tables.{groups-length}
 use Rattle.laws.specs.Totals.{totals-held-length, held-part, next-long, next-held, total-there, total-elsewhere}
 use Rattle.laws.specs.SoundParts.{SoundBook, sound-parts, parts-sound, money-same}
 use Rattle.laws.specs.Accepted.{may-deposit, may-withdraw}
@@ -76,7 +76,7 @@ module _ (k : Book) (c : SoundBook k) (shape : Shaped k) (a s v : ℕ) (h : a < 
   unfolding holdingsFit withHoldings totalHeld
   fits =
       let p = both-hold (all (λ h. leb h mostHeld) (k .holdings)) (all (λ t. leb t mostHeld) (totalsHeld (k .holdings))) (c .holdings) in
-      and-hold (all-with (λ h. leb h mostHeld) (k .holdings) (holdingAt a s) v (p .0) (le-leb v mostHeld entry-small))
+      and-hold (all-set (λ h. leb h mostHeld) (k .holdings) (holdingAt a s) v (p .0) (le-leb v mostHeld entry-small))
       (all-by-index (λ t. leb t mostHeld) (totalsHeld next) 0
       (λ u m. le-leb _ mostHeld (totals-small u (omega (arith, totals-held-length next (next-long (k .holdings) (shape .holdings) a s v h l))))))
 
@@ -87,7 +87,7 @@ module _ (k : Book) (c : SoundBook k) (shape : Shaped k) (a s v : ℕ) (h : a < 
       let p = both-hold (all (λ p. not (unlisted k (securityOf p))) (openOf k)) (all (holdsListed (k .currency)) rows) (c .listed) in
       and-hold (p .0)
       (rw (next-held (k .holdings) (shape .holdings) a s v h l)
-      (all-with (holdsListed (k .currency)) rows a _ (p .1)
+      (all-set (holdsListed (k .currency)) rows a _ (p .1)
       (listed-set (k .currency) (getD rows a []) s v on
       (all-at (holdsListed (k .currency)) rows a [] (p .1) (omega (arith, groups-length securities accounts (k .holdings)))))))
 

@@ -40,6 +40,19 @@ pub mod KeptLists
 pub mod Totals
 pub mod KeptHoldings
 pub mod Empty
+-- what a settlement run keeps: shares, holdings, money, order; and that it leaves a sound book
+pub mod MovedTotals
+pub mod Stakes
+pub mod RunKeeps
+pub mod RunLeaves
+pub mod RunShares
+pub mod RunHoldings
+pub mod RunClaims
+pub mod RunMoney
+pub mod RunOthers
+pub mod RunRecords
+pub mod RunSigns
+pub mod RunSound
 -- what is stored is read back
 pub mod Fitting
 pub mod ReadBack

@@ -1,4 +1,4 @@
--- Tests and sums over tables: of one entry many times, with one entry set, and cut into groups, as accounts are cut out of the holdings.
+-- Tests and sums over tables: of one entry many times, and cut into groups, as accounts are cut out of the holdings.
 use mathlib.Core.Path.{_≡_, refl, ap, ap₂, _∙_}
 use mathlib.Core.Bool.{Bool, true}
 use mathlib.Core.List.{List, [], _∷_}
@@ -11,21 +11,15 @@ use lib.Seq.{length-take-le, take-set-lt, take-set-le, drop-set-lt, drop-set-add
 use borrow.Author.Tests.{eq-eqb}
 use Rattle.rules.specs.Words.{all, total}
 use Rattle.rules.specs.Sound.{byAccount}
-use Rattle.laws.specs.Cases.{both-hold, and-hold}
+use Rattle.laws.specs.Cases.{and-hold}
 
--- ── one entry many times, one entry set ──
+-- ── one entry many times ──
 
 module _ {A : Type 0} (t : A → Bool) where
   pub all-same : (n : ℕ) (x : A) → t x ≡ true → all t (replicate n x) ≡ true
   unfolding all
   all-same zero x e = refl
   all-same (suc n) x e = and-hold e (all-same n x e)
-
-  pub all-with : (l : List A) (i : ℕ) (x : A) → all t l ≡ true → t x ≡ true → all t (set l i x) ≡ true
-  unfolding all
-  all-with [] i x a e = refl
-  all-with (y ∷ l) zero x a e = and-hold e (both-hold (t y) (all t l) a .1)
-  all-with (y ∷ l) (suc i) x a e = let p = both-hold (t y) (all t l) a in and-hold (p .0) (all-with l i x (p .1) e)
 
 -- one entry is part of the sum
 pub total-part : {A : Type 0} (f : A → ℕ) (l : List A) (i : ℕ) (d : A) → i < length l → f (getD l i d) ≤ total f l
@@ -53,8 +47,12 @@ module _ {A : Type 0} (w : ℕ) where
       let m = suc-mul n w in
       and-hold (eq-eqb (length (take w l)) w (length-take-le w l (omega arith))) (groups-wide n (drop w l) (omega (arith, length-drop w l)))
 
+  -- group a
+  abbrev pub group : ℕ → List A → ℕ → List A
+  group n l a = getD (byAccount w n l) a []
+
   -- entry s of group a
-  pub groups-at : (n : ℕ) (l : List A) (a s : ℕ) (d : A) → a < n → s < w → getD (getD (byAccount w n l) a []) s d ≡ getD l (a * w + s) d
+  pub groups-at : (n : ℕ) (l : List A) (a s : ℕ) (d : A) → a < n → s < w → getD (group n l a) s d ≡ getD l (a * w + s) d
   unfolding byAccount
   groups-at zero l a s d h k = absurd (omega arith)
   groups-at (suc n) l zero s d h k = rw (zero-mul w, zero-add s) (getD-take w l s d k)
@@ -63,7 +61,7 @@ module _ {A : Type 0} (w : ℕ) where
 
   -- an entry set in the table is set in its group
   pub groups-set : (n : ℕ) (l : List A) (a s : ℕ) (v : A) → s < w
-      → byAccount w n (set l (a * w + s) v) ≡ set (byAccount w n l) a (set (getD (byAccount w n l) a []) s v)
+      → byAccount w n (set l (a * w + s) v) ≡ set (byAccount w n l) a (set (group n l a) s v)
   unfolding byAccount
   groups-set zero l a s v h = refl
   groups-set (suc n) l zero s v h =

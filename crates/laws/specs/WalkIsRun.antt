@@ -35,7 +35,7 @@ first-of : (t : Position → Bool) (p : Position) (l : List Position) → all t 
 unfolding all
 first-of t p l a = both-hold (t p) (all t l) a
 
-kept-at : (t u : Position → Bool) (ps : List Position) (i : ℕ) → all t (keep u ps) ≡ true → i < length ps → u (row ps i) ≡ true → t (row ps i) ≡ true
+pub kept-at : (t u : Position → Bool) (ps : List Position) (i : ℕ) → all t (keep u ps) ≡ true → i < length ps → u (row ps i) ≡ true → t (row ps i) ≡ true
 kept-at t u [] i a h e = absurd (omega arith)
 kept-at t u (p ∷ ps) zero a h e = first-of t p (keep u ps) (sym (ap (all t) (keep-yes u p ps e)) ∙ a) .0
 kept-at t u (p ∷ ps) (suc i) a h e =
@@ -57,14 +57,14 @@ unfolding longOf
 long-sign (pos m) h = refl
 long-sign (negsuc m) h = absurd (omega arith)
 
-owes-says : (d s : ℕ) (p : Position) → 0 < owes d s p → (securityOf p ≡ s) × (isDue d p ≡ true) × (isNegative (quantityOf p) ≡ true)
+pub owes-says : (d s : ℕ) (p : Position) → 0 < owes d s p → (securityOf p ≡ s) × (isDue d p ≡ true) × (isNegative (quantityOf p) ≡ true)
 unfolding owes isDueIn
 owes-says d s p h =
     let c = cond-some (eqb (securityOf p) s && isDue d p) (shortOf (quantityOf p)) h in
     let e = both-hold (eqb (securityOf p) s) (isDue d p) (c .0) in
     (eqb-true (securityOf p) s (e .0), e .1, short-sign (quantityOf p) (c .1))
 
-wants-says : (d s : ℕ) (p : Position) → 0 < wants d s p → (securityOf p ≡ s) × (isDue d p ≡ true) × (isNegative (quantityOf p) ≡ false)
+pub wants-says : (d s : ℕ) (p : Position) → 0 < wants d s p → (securityOf p ≡ s) × (isDue d p ≡ true) × (isNegative (quantityOf p) ≡ false)
 unfolding wants isDueIn
 wants-says d s p h =
     let c = cond-some (eqb (securityOf p) s && isDue d p) (longOf (quantityOf p)) h in
