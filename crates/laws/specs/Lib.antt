@@ -40,9 +40,26 @@ pub mod KeptLists
 pub mod Totals
 pub mod KeptHoldings
 pub mod Empty
+-- the money at stake, account by account
+pub mod Stakes
+-- the day roll: records lessened, who faces whom, one newly due record against the older ones, all of them
+pub mod Lessened
+pub mod Facing
+pub mod Against
+pub mod Offsets
+-- an accepted roll keeps the book sound: records by due day, how clauses are shown, what remains, offsetting, its money, nets of listed
+-- securities, the book before offsetting, the roll; and no money is lost
+pub mod DueDays
+pub mod Showing
+pub mod Remaining
+pub mod OffsetKept
+pub mod StakeKept
+pub mod NetListed
+pub mod Rolling
+pub mod RollKept
+pub mod RollWorth
 -- what a settlement run keeps: shares, holdings, money, order; and that it leaves a sound book
 pub mod MovedTotals
-pub mod Stakes
 pub mod RunKeeps
 pub mod RunLeaves
 pub mod RunShares
