@@ -1,0 +1,108 @@
+-- One pass over a table whose entries count by their place: a test of each entry, and amounts that are added up at one of n places.
+use mathlib.Core.Path.{_≡_, refl, sym, ap, _∙_}
+use mathlib.Core.Bool.{Bool, true, false, cond, _&&_}
+use mathlib.Core.List.{List, [], _∷_}
+use mathlib.Core.Logic.{dite}
+use Prim.Native.Nat.{ℕ, zero, suc, _+_, _*_, _<_, _≤_}
+use native.Mathlib.Decide.{ℕ-discrete}
+use native.Mathlib.Numerals.{add-one}
+use native.Mathlib.Omega.{arith}
+use lib.Dec.{eqb}
+use lib.ListN.{length, getD, take, drop, set, replicate, length-set, length-replicate, getD-replicate, drop-of-length-le}
+use lib.Seq.{drop-cons, getD-set-same, getD-set-other}
+use borrow.Author.Tests.{eq-eqb, ne-eqb}
+use Rattle.laws.specs.Cases.{cond-yes, cond-no}
+
+-- ── a test ──
+
+-- each entry passes the test at its place, the first at j
+unfoldable pub allFrom : {A : Type 0} → (ℕ → A → Bool) → ℕ → List A → Bool
+allFrom t j [] = true
+allFrom t j (x ∷ l) = t j x && allFrom t (suc j) l
+
+and-step : (b p q r : Bool) → p ≡ q && r → b && p ≡ (b && q) && r
+and-step true p q r e = e
+and-step false p q r e = refl
+
+module _ {A : Type 0} (t : ℕ → A → Bool) where
+  pub from-split : (j m : ℕ) (l : List A) → allFrom t j l ≡ allFrom t j (take m l) && allFrom t (j + m) (drop m l)
+  unfolding allFrom
+  from-split j zero l = let z : j + 0 ≡ j = omega arith in rw z
+  from-split j (suc m) [] = refl
+  from-split j (suc m) (x ∷ l) = let z : j + suc m ≡ suc j + m = omega arith in rw z (and-step (t j x) _ _ _ (from-split (suc j) m l))
+
+  from-step : (l : List A) (i : ℕ) (d : A) → i < length l → allFrom t i (drop i l) ≡ t i (getD l i d) && allFrom t (i + 1) (drop (i + 1) l)
+  unfolding allFrom
+  from-step l i d h = rw (add-one i, drop-cons l i d h)
+
+  -- the loop: what is left to test decides
+  pub from-more : (l : List A) (i : ℕ) (d : A) → i < length l → allFrom t i (drop i l) ≡ allFrom t 0 l → t i (getD l i d) ≡ true
+      → allFrom t (i + 1) (drop (i + 1) l) ≡ allFrom t 0 l
+  from-more l i d h e f = sym (from-step l i d h ∙ ap (λ (b : Bool). b && allFrom t (i + 1) (drop (i + 1) l)) f) ∙ e
+
+  pub from-fails : (l : List A) (i : ℕ) (d : A) → i < length l → allFrom t i (drop i l) ≡ allFrom t 0 l → t i (getD l i d) ≡ false
+      → false ≡ allFrom t 0 l
+  from-fails l i d h e f = sym (from-step l i d h ∙ ap (λ (b : Bool). b && allFrom t (i + 1) (drop (i + 1) l)) f) ∙ e
+
+  pub from-done : (l : List A) (i : ℕ) → length l ≤ i → allFrom t i (drop i l) ≡ allFrom t 0 l → true ≡ allFrom t 0 l
+  unfolding allFrom
+  from-done l i h e = sym (ap (allFrom t i) (drop-of-length-le l {i = i} h)) ∙ e
+
+-- ── amounts ──
+
+-- what the entries, the first at j, add up to at the place x
+unfoldable pub amountsAt : {A : Type 0} → (ℕ → A → ℕ) → (A → ℕ) → ℕ → ℕ → List A → ℕ
+amountsAt place amount x j [] = 0
+amountsAt place amount x j (a ∷ l) = cond (eqb (place j a) x) (amount a) 0 + amountsAt place amount x (suc j) l
+
+module _ {A : Type 0} (place : ℕ → A → ℕ) (amount : A → ℕ) where
+  pub amounts-split : (x j m : ℕ) (l : List A)
+      → amountsAt place amount x j l ≡ amountsAt place amount x j (take m l) + amountsAt place amount x (j + m) (drop m l)
+  unfolding amountsAt
+  amounts-split x j zero l = let z : j + 0 ≡ j = omega arith in rw z (omega arith)
+  amounts-split x j (suc m) [] = refl
+  amounts-split x j (suc m) (a ∷ l) = let z : j + suc m ≡ suc j + m = omega arith in rw z (omega (arith, amounts-split x (suc j) m l))
+
+  amounts-step : (x i : ℕ) (l : List A) (d : A) → i < length l
+      → amountsAt place amount x i (drop i l) ≡ cond (eqb (place i (getD l i d)) x) (amount (getD l i d)) 0 + amountsAt place amount x (i + 1) (drop (i + 1) l)
+  unfolding amountsAt
+  amounts-step x i l d h = rw (add-one i, drop-cons l i d h)
+
+-- the sums of the first i entries, each amount at most b: with what is left they make the whole
+pub record Gathered {A : Type 0} (place : ℕ → A → ℕ) (amount : A → ℕ) (n b : ℕ) (sums : List ℕ) (l : List A) (i : ℕ) : Type 0 where
+  pub long : length sums ≡ n
+  pub sum : (x : ℕ) → x < n → getD sums x 0 + amountsAt place amount x i (drop i l) ≡ amountsAt place amount x 0 l
+  pub small : (x : ℕ) → x < n → getD sums x 0 ≤ i * b
+
+module _ {A : Type 0} (place : ℕ → A → ℕ) (amount : A → ℕ) (n b : ℕ) where
+  pub gathered-none : (l : List A) → Gathered place amount n b (replicate n 0) l 0
+  gathered-none l = record {
+    long = length-replicate {A = ℕ} n 0;
+    sum = λ x h. omega (arith, getD-replicate {A = ℕ} n x 0 0 h);
+    small = λ x h. omega (arith, getD-replicate {A = ℕ} n x 0 0 h);
+  }
+
+  -- one entry more, with the place y and the amount m
+  pub gathered-more : (sums : List ℕ) (l : List A) (i : ℕ) (d : A) (y m : ℕ) → i < length l → place i (getD l i d) ≡ y → amount (getD l i d) ≡ m
+      → y < n → m ≤ b → Gathered place amount n b sums l i → Gathered place amount n b (set sums y (getD sums y 0 + m)) l (i + 1)
+  gathered-more sums l i d y m h p a k s g = record {
+    long = length-set sums y (getD sums y 0 + m) ∙ g .long;
+    sum = λ x o. dite (ℕ-discrete x y)
+        (λ e. omega (arith, g .sum x o, amounts-step place amount x i l d h, cond-yes (amount (getD l i d)) 0 (eq-eqb (place i (getD l i d)) x (p ∙ sym e)), a, same x e))
+        (λ u. omega (arith, g .sum x o, amounts-step place amount x i l d h, cond-no (amount (getD l i d)) 0 (ne-eqb (place i (getD l i d)) x (λ e. u (sym e ∙ p))), other x u));
+    small = λ x o. let had : getD sums x 0 ≤ i * b = g .small x o in
+        let more : (i + 1) * b ≡ i * b + b = omega arith in
+        dite (ℕ-discrete x y) (λ e. omega (arith, same x e)) (λ u. omega (arith, other x u));
+  }
+    where
+      same : (x : ℕ) → x ≡ y → getD (set sums y (getD sums y 0 + m)) x 0 ≡ getD sums x 0 + m
+      same x e = rw e (getD-set-same sums y (getD sums y 0 + m) 0 (omega (arith, g .long)))
+
+      other : (x : ℕ) → (x ≡ y → ⊥) → getD (set sums y (getD sums y 0 + m)) x 0 ≡ getD sums x 0
+      other x u = getD-set-other sums y x (getD sums y 0 + m) 0 u
+
+  pub gathered-done : (sums : List ℕ) (l : List A) (i : ℕ) → length l ≤ i → Gathered place amount n b sums l i
+      → (x : ℕ) → x < n → getD sums x 0 ≡ amountsAt place amount x 0 l
+  unfolding amountsAt
+  gathered-done sums l i h g x k =
+      omega (arith, g .sum x k, ap (amountsAt place amount x i) (drop-of-length-le l {i = i} h))

@@ -1,0 +1,37 @@
+// "Trades: .. numbers distinct .." One pass, with a flag for each of the 65,536 numbers.
+use rules::Book;
+ghost use mathlib.Core.Path.{_≡_};
+ghost use mathlib.Core.Bool.{true, false, not};
+ghost use mathlib.Core.List.{map};
+ghost use Prim.Native.Nat.{_<_, _≤_};
+ghost use lib.ListN.{getD, set};
+ghost use Rattle.rules.specs.Book.{listOf};
+ghost use Rattle.rules.specs.Sound.{distinct};
+
+// Raises the flag of a number, and says whether it was down. The caller learns that the number has a flag.
+fn first_use(used: &mut [bool; 65536], number: u16) -> bool
+    ensures { λ r. ⌜ (r ≡ not (getD (now (used .entry)) number false))
+        × ((now (used .exit) ≡ set (now (used .entry)) number true) × (number < 65536)) ⌝ }
+{
+    let at = number as usize;
+    let new = !used[at];
+    used[at] = true;
+    new
+}
+
+pub fn numbers_distinct(k: Book) -> bool
+    requires { ⌜ k .entries ≤ 256 ⌝ }
+    ensures { λ r. ⌜ r ≡ distinct (map (λ t. t .number) (listOf k)) ⌝ }
+{
+    let mut used = [false; 65536];
+    let n = k.entries as usize;
+    let mut i: usize = 0;
+    while i < n {
+        let t = k.trades[i];
+        if !first_use(&mut used, t.number) {
+            return false;
+        }
+        i += 1;
+    }
+    true
+}

@@ -1,0 +1,2 @@
+-- The sentences of a sound book, grouped as the code tests them.
+pub mod Clauses
