@@ -25,7 +25,7 @@ added-length [] ts e = refl
 added-length (h ∷ hs) [] e = refl
 added-length (h ∷ hs) (t ∷ ts) e = ap suc (added-length hs ts (omega arith))
 
-added-at : (hs ts : List ℕ) (s : ℕ) → length hs ≡ length ts → getD (added hs ts) s 0 ≡ getD hs s 0 + getD ts s 0
+pub added-at : (hs ts : List ℕ) (s : ℕ) → length hs ≡ length ts → getD (added hs ts) s 0 ≡ getD hs s 0 + getD ts s 0
 unfolding added
 added-at [] [] s e = refl
 added-at [] (t ∷ ts) s e = absurd (omega arith)

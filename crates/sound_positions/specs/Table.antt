@@ -1,11 +1,11 @@
 -- The position table: a loop over the records in use, and one over the room behind them, and what a test of each says of `all`.
 use mathlib.Core.Path.{_≡_, refl, sym, ap, _∙_}
 use mathlib.Core.Bool.{Bool, true, false}
-use mathlib.Core.List.{List, [], _∷_, map}
+use mathlib.Core.List.{List, [], _∷_}
 use Prim.Native.Nat.{ℕ, zero, suc, _+_, _<_, _≤_}
 use native.Mathlib.Numerals.{add-one}
 use native.Mathlib.Omega.{arith}
-use lib.ListN.{length, getD, take, drop, replicate, length-map}
+use lib.ListN.{length, getD, take, drop, replicate}
 use lib.Seq.{getD-take, length-take-le, drop-cons, drop-length}
 use Rattle.rules.specs.Words.{all}
 use Rattle.rules.specs.Bounds.{mostRecords}
@@ -15,10 +15,6 @@ use Rattle.laws.specs.Cases.{both-hold}
 use Rattle.laws.specs.Walks.{all-fails}
 use borrow.Author.Tests.{leb-true}
 use lib.Dec.{leb}
-
--- The length of an array of records, which the code knows of the array of their fields.
-pub unmapped : (X Y : Type 0) (f : X → Y) (l : List X) (n : ℕ) → length (map f l) ≡ n → length l ≡ n
-unmapped X Y f l n e = sym (length-map l f) ∙ e
 
 module _ {A : Type 0} (t : A → Bool) (l : List A) where
   -- ── the first n ──

@@ -10,6 +10,7 @@ use lib.Seq.{ext-getD}
 use borrow.Author.Tests.{eq-eqb, ne-eqb}
 use Rattle.rules.specs.Bounds.{mostHeld}
 use Rattle.rules.specs.Sound.{byAccount, added, totals, totalsHeld}
+use Rattle.laws.specs.Totals.{added-at}
 use Rattle.laws.specs.Cases.{cond-yes, cond-no}
 use Rattle.sound_tables.specs.Placed.{amountsAt, amounts-split, Gathered, gathered-done}
 
@@ -30,14 +31,6 @@ abbrev pub Summed : List ℕ → List ℕ → ℕ → Type 0
 Summed ts hs i = Gathered (λ j h. j % 32) (λ h. h) 32 mostHeld ts hs i
 
 -- ── the rules' totals ──
-
-added-at : (a b : List ℕ) (s : ℕ) → length a ≡ length b → getD (added a b) s 0 ≡ getD a s 0 + getD b s 0
-unfolding added
-added-at [] [] s e = refl
-added-at [] (y ∷ b) s e = absurd (omega arith)
-added-at (x ∷ a) [] s e = absurd (omega arith)
-added-at (x ∷ a) (y ∷ b) zero e = refl
-added-at (x ∷ a) (y ∷ b) (suc s) e = added-at a b s (omega arith)
 
 added-length : (a b : List ℕ) → length a ≡ length b → length (added a b) ≡ length b
 unfolding added

@@ -2,10 +2,7 @@
 -- Each place is named after the part that has just been stored there.
 use borrow.Author.Needs.{needs}
 use native.Mathlib.Omega.{arith}
-use mathlib.Core.Path.{_≡_, sym, _∙_}
-use mathlib.Core.List.{List, map}
-use Prim.Native.Nat.{ℕ}
-use lib.ListN.{length, length-map}
+use Rattle.fields.specs.Lengths.{unmapped}
 use Rattle.book.specs.Writing.{book-written, Tables}
 use Rattle.book.proofs.store.Statement.{statement}
 use Rattle.book.proofs.store.Tie as tie
@@ -50,10 +47,6 @@ put-trades-requires c κs =
 
 same-length : tie.Need-same-length
 same-length c = search needs
-
--- the length of a table of records: of its form in memory the search knows it
-unmapped : (X Y : Type 0) (f : X → Y) (l : List X) (n : ℕ) → length (map f l) ≡ n → length l ≡ n
-unmapped X Y f l n e = sym (length-map l f) ∙ e
 
 -- what comes in as a book has tables of the right length
 tables : (c : tie.Start) → Tables (c .args .k)

@@ -6,7 +6,7 @@ use native.Mathlib.Omega.{arith}
 use lib.ListN.{length, take}
 use Rattle.rules.specs.Book.{openOf}
 use Rattle.rules.specs.Words.{keep}
-use Rattle.sound_positions.specs.Table.{unmapped}
+use Rattle.fields.specs.Lengths.{unmapped}
 use Rattle.sound_positions.specs.Totalling.{Totalled, totalled-none, totalled-step, room-for}
 use Rattle.sound_positions.specs.Balance.{dueWithin}
 use Rattle.sound_positions.proofs.balance.totals_due.Statement.{statement}

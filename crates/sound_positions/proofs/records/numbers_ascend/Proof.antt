@@ -8,7 +8,7 @@ use lib.ListN.{length, take}
 use Rattle.rules.specs.Book.{openOf}
 use Rattle.rules.specs.Sound.{ascends}
 use Rattle.sound_positions.specs.Ascent.{ascends-few, ascends-more, ascends-fails, ascends-done}
-use Rattle.sound_positions.specs.Table.{unmapped}
+use Rattle.fields.specs.Lengths.{unmapped}
 use Rattle.sound_positions.proofs.records.numbers_ascend.Statement.{statement}
 use Rattle.sound_positions.proofs.records.numbers_ascend.Tie as tie
 

@@ -8,7 +8,8 @@ use borrow.Author.Tests.{not-true, not-false}
 use Rattle.rules.specs.Book.{noPosition}
 use Rattle.rules.specs.Sound.{isBlank}
 use Rattle.rules.specs.Words.{all}
-use Rattle.sound_positions.specs.Table.{unmapped, drop-more, drop-fails, drop-done}
+use Rattle.fields.specs.Lengths.{unmapped}
+use Rattle.sound_positions.specs.Table.{drop-more, drop-fails, drop-done}
 use Rattle.sound_positions.proofs.records.unused_blank.Statement.{statement}
 use Rattle.sound_positions.proofs.records.unused_blank.Tie as tie
 

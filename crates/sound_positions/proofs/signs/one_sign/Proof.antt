@@ -8,7 +8,8 @@ use borrow.Author.Tests.{not-true, not-false}
 use Rattle.rules.specs.Book.{openOf}
 use Rattle.rules.specs.Words.{keep}
 use Rattle.rules.specs.Sound.{isDue, oneSign}
-use Rattle.sound_positions.specs.Table.{unmapped, nothing-length}
+use Rattle.fields.specs.Lengths.{unmapped}
+use Rattle.sound_positions.specs.Table.{nothing-length}
 use Rattle.sound_positions.specs.OneSign.{places, noClash, clash-none, clash-more, clash-found, clash-done, seen-length}
 use Rattle.sound_positions.proofs.signs.one_sign.Statement.{statement}
 use Rattle.sound_positions.proofs.signs.one_sign.Tie as tie

@@ -10,7 +10,8 @@ use Rattle.rules.specs.Book.{openOf, noPosition}
 use Rattle.rules.specs.Sound.{sizesFit}
 use Rattle.rules.specs.Words.{all}
 use Rattle.laws.specs.Walks.{all-none, all-more}
-use Rattle.sound_positions.specs.Table.{unmapped, take-fails, take-done}
+use Rattle.fields.specs.Lengths.{unmapped}
+use Rattle.sound_positions.specs.Table.{take-fails, take-done}
 use Rattle.sound_positions.proofs.sizes.sizes_fit.Statement.{statement}
 use Rattle.sound_positions.proofs.sizes.sizes_fit.Tie as tie
 

@@ -7,7 +7,7 @@ use mathlib.Core.Path.{_≡_, refl, sym, _∙_}
 use lib.IntN.{pos}
 use lib.ListN.{length, drop}
 use Rattle.units.specs.Units.{mils}
-use Rattle.sound_tables.specs.Lengths.{unmapped}
+use Rattle.fields.specs.Lengths.{unmapped}
 use Rattle.sound_tables.specs.Placed.{allFrom, from-more, from-fails, from-done}
 use Rattle.sound_tables.specs.Stakes.{stakeFits}
 use Rattle.sound_tables.proofs.money.charges_fit.Statement.{statement}

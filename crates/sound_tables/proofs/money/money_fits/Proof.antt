@@ -2,7 +2,7 @@
 use borrow.Author.Needs.{needs}
 use mathlib.Core.Path.{_≡_, _∙_}
 use lib.ListN.{length}
-use Rattle.sound_tables.specs.Lengths.{unmapped}
+use Rattle.fields.specs.Lengths.{unmapped}
 use Rattle.sound_tables.specs.Stakes.{stakes-fit}
 use Rattle.sound_tables.proofs.money.money_fits.Statement.{statement}
 use Rattle.sound_tables.proofs.money.money_fits.Tie as tie

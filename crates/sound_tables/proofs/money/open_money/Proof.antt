@@ -9,7 +9,7 @@ use Rattle.laws.specs.Numbers.{account-below}
 use Rattle.rules.specs.Book.{openOf, noPosition, securityOf, currencyOf}
 use Rattle.rules.specs.declared.Book.{Book}
 use Rattle.units.specs.Units.{mostMils}
-use Rattle.sound_tables.specs.Lengths.{unmapped}
+use Rattle.fields.specs.Lengths.{unmapped}
 use Rattle.sound_tables.specs.Placed.{Gathered, gathered-none, gathered-more, gathered-done}
 use Rattle.sound_tables.specs.Stakes.{placeOf, placeBy, sizeOf, currency-below, size-small, open-money}
 use Rattle.sound_tables.proofs.money.open_money.Statement.{statement}

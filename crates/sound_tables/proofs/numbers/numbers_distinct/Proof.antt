@@ -13,7 +13,7 @@ use Rattle.rules.specs.Sound.{distinct}
 use Rattle.rules.specs.declared.Book.{Book}
 use Rattle.rules.specs.declared.Trade.{Trade}
 use Rattle.sound_tables.specs.Distinct.{Flagged, flagged-none, flagged-more, distinct-none, distinct-more, distinct-fails, distinct-done}
-use Rattle.sound_tables.specs.Lengths.{unmapped}
+use Rattle.fields.specs.Lengths.{unmapped}
 use Rattle.sound_tables.proofs.numbers.numbers_distinct.Statement.{statement}
 use Rattle.sound_tables.proofs.numbers.numbers_distinct.Tie as tie
 

@@ -10,7 +10,7 @@ use Rattle.laws.specs.Listed.{listable}
 use Rattle.laws.specs.Walks.{all-none}
 use Rattle.rules.specs.Book.{listOf, noTrade}
 use Rattle.rules.specs.Words.{all}
-use Rattle.sound_tables.specs.Lengths.{unmapped}
+use Rattle.fields.specs.Lengths.{unmapped}
 use Rattle.sound_tables.specs.Parts.{used-more, used-fails, used-done}
 use Rattle.sound_tables.proofs.trades.all_listable.Statement.{statement}
 use Rattle.sound_tables.proofs.trades.all_listable.Tie as tie

@@ -12,7 +12,7 @@ use Rattle.rules.specs.Book.{noTrade}
 use Rattle.rules.specs.Sound.{zeroFields}
 use Rattle.rules.specs.Words.{all}
 use Rattle.rules.specs.declared.Trade.{Trade}
-use Rattle.sound_tables.specs.Lengths.{unmapped}
+use Rattle.fields.specs.Lengths.{unmapped}
 use Rattle.sound_tables.specs.Parts.{rest-more, rest-fails, rest-done}
 use Rattle.sound_tables.proofs.trades.rest_blank.Statement.{statement}
 use Rattle.sound_tables.proofs.trades.rest_blank.Tie as tie

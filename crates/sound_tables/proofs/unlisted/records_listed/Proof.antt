@@ -11,7 +11,7 @@ use Rattle.rules.specs.Book.{openOf, noPosition, securityOf, unlisted}
 use Rattle.rules.specs.Words.{all}
 use Rattle.rules.specs.declared.Book.{Book}
 use Rattle.rules.specs.declared.Position.{Position}
-use Rattle.sound_tables.specs.Lengths.{unmapped}
+use Rattle.fields.specs.Lengths.{unmapped}
 use Rattle.sound_tables.specs.Parts.{used-more, used-fails, used-done}
 use Rattle.sound_tables.proofs.unlisted.records_listed.Statement.{statement}
 use Rattle.sound_tables.proofs.unlisted.records_listed.Tie as tie
