@@ -1,5 +1,8 @@
 // Where each part of the book begins, and how many bytes a row of each table has (docs/BOOK.md). Every offset of the
 // crate is one of these; what stands within a row is said where the row is read and written.
+// How many bytes a book has.
+pub const BOOK_BYTES: usize = 42_278;
+
 pub(crate) const DAY: usize = 0;
 
 pub(crate) const CODES: usize = 2;

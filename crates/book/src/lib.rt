@@ -9,6 +9,7 @@ mod trades;
 
 use fields::get;
 use fields::put;
+pub use layout::BOOK_BYTES;
 use layout::DAY;
 use layout::ENTRIES;
 use layout::RECORDS;

@@ -1,0 +1,123 @@
+-- Deposit and withdrawal: the tests that they share, and what follows from passing them.
+use mathlib.Core.Path.{_≡_, sym, _∙_}
+use mathlib.Core.Bool.{Bool, true, false, cond, not, _||_}
+use mathlib.Core.List.{List, [], _∷_}
+use Prim.Native.Nat.{ℕ, _+_, _*_, _<_, _≤_}
+use native.Mathlib.Omega.{arith}
+use borrow.Author.Tests.{ltb-false, lt-ltb, le-ltb, leb-true, not-false, eq-eqb, ne-eqb}
+use lib.Dec.{eqb, leb, ltb}
+use lib.ListN.{length, getD}
+use Rattle.rules.specs.Words.{all, Test, first, above}
+use Rattle.rules.specs.Bounds.{accounts, securities, lastAccount, lastSecurity, mostHeld, mostDeposited}
+use Rattle.rules.specs.Book.{unlisted, heldBy}
+use Rattle.rules.specs.Sound.{sound, totalsHeld, totalHeld, holdingsFit}
+use Rattle.rules.specs.Trades.{noAccount, noSecurity, badSecurity}
+use Rattle.rules.specs.Calls.{deposit, withdraw, badDeposit, holdingTests, tests, answer, answerSound}
+use Rattle.rules.specs.declared.Book.{Book}
+use Rattle.laws.specs.Cases.{both-hold, neither, cond-yes, cond-no}
+use Rattle.laws.specs.Walks.{all-at}
+use Rattle.laws.specs.Accepted.{passed, MayHold, may-withdraw, may-deposit}
+use Rattle.laws.specs.SoundParts.{sound-parts}
+use Rattle.laws.specs.KeptHoldings.{total-fits}
+
+-- the first of the shared tests that holds
+unfoldable pub commonRefusal : Book → ℕ → ℕ → ℕ → ℕ
+commonRefusal k a s q = first ((not (sound k), 1) ∷ holdingTests k a s q [])
+
+-- ── the shared tests, then the rest ──
+
+four : (b₁ b₂ b₃ b₄ : Bool) (rest : List Test) (n : ℕ) → n ≡ first ((b₁, 1) ∷ (b₂, 2) ∷ (b₃, 3) ∷ (b₄, 4) ∷ [])
+    → first ((b₁, 1) ∷ (b₂, 2) ∷ (b₃, 3) ∷ (b₄, 4) ∷ rest) ≡ cond (eqb n 0) (first rest) n
+unfolding first
+four true b₂ b₃ b₄ rest n e = rw e
+four false true b₃ b₄ rest n e = rw e
+four false false true b₄ rest n e = rw e
+four false false false true rest n e = rw e
+four false false false false rest n e = rw e
+
+module _ (k : Book) (a s q : ℕ) where
+  common-then : (rest : List Test) (n : ℕ) → n ≡ commonRefusal k a s q → first ((not (sound k), 1) ∷ holdingTests k a s q rest) ≡ cond (eqb n 0) (first rest) n
+  unfolding commonRefusal holdingTests
+  common-then rest n e = four (not (sound k)) (noAccount a) (badSecurity k s) (badDeposit q) rest n e
+
+  -- the answer of the code, by the outcome of each test
+  pub common-by : {b₁ b₂ b₃ b₄ : Bool} → not (sound k) ≡ b₁ → noAccount a ≡ b₂ → badSecurity k s ≡ b₃ → badDeposit q ≡ b₄
+      → first ((b₁, 1) ∷ (b₂, 2) ∷ (b₃, 3) ∷ (b₄, 4) ∷ []) ≡ commonRefusal k a s q
+  unfolding commonRefusal holdingTests
+  common-by e₁ e₂ e₃ e₄ = rw (e₁, e₂, e₃, e₄)
+
+  pub common-passed : commonRefusal k a s q ≡ 0 → (sound k ≡ true) × ((a < accounts) × ((s < securities) × (q ≤ mostDeposited)))
+  unfolding commonRefusal holdingTests noAccount badSecurity noSecurity badDeposit
+  common-passed e =
+      let f = passed (not (sound k)) 0 _ e in
+      let x = passed (ltb lastAccount a) 1 _ (f .1) in
+      let y = passed (ltb lastSecurity s || unlisted k s) 2 _ (x .1) in
+      let z = passed (ltb q 1 || ltb mostDeposited q) 3 [] (y .1) in
+      let u = neither (ltb lastSecurity s) (unlisted k s) (y .0) in
+      let v = neither (ltb q 1) (ltb mostDeposited q) (z .0) in
+      (not-false (sound k) (f .0), (omega (arith, ltb-false lastAccount a (x .0)), (omega (arith, ltb-false lastSecurity s (u .0)), ltb-false mostDeposited q (v .1))))
+
+  -- ── deposit ──
+
+  pub deposit-stops : (n : ℕ) → n ≡ commonRefusal k a s q → (n ≡ 0 → ⊥) → n ≡ answer k (deposit a s q)
+  unfolding answer tests
+  deposit-stops n e z = sym (common-then _ n e ∙ cond-no _ n (ne-eqb n 0 z))
+
+  deposit-goes : (n : ℕ) → n ≡ commonRefusal k a s q → n ≡ 0 → answer k (deposit a s q) ≡ first ((above mostHeld (totalHeld (k .holdings) s + q), 12) ∷ [])
+  unfolding answer tests
+  deposit-goes n e z = common-then _ n e ∙ cond-yes _ n (eq-eqb n 0 z)
+
+  pub deposit-over : (n : ℕ) (ts : List ℕ) → n ≡ commonRefusal k a s q → n ≡ 0 → ts ≡ totalsHeld (k .holdings) → mostHeld < getD ts s 0 + q → 12 ≡ answer k (deposit a s q)
+  unfolding totalHeld first
+  deposit-over n ts e z t h = sym (deposit-goes n e z ∙ rw (sym t, lt-ltb mostHeld (getD ts s 0 + q) h))
+
+  pub deposit-fine : (n : ℕ) (ts : List ℕ) → n ≡ commonRefusal k a s q → n ≡ 0 → ts ≡ totalsHeld (k .holdings) → getD ts s 0 + q ≤ mostHeld → 0 ≡ answer k (deposit a s q)
+  unfolding totalHeld first
+  deposit-fine n ts e z t h = sym (deposit-goes n e z ∙ rw (sym t, le-ltb mostHeld (getD ts s 0 + q) h))
+
+  -- ── withdrawal ──
+
+  pub withdrawal-stops : (n : ℕ) → n ≡ commonRefusal k a s q → (n ≡ 0 → ⊥) → n ≡ answer k (withdraw a s q)
+  unfolding answer tests
+  withdrawal-stops n e z = sym (common-then _ n e ∙ cond-no _ n (ne-eqb n 0 z))
+
+  withdrawal-goes : (n : ℕ) → n ≡ commonRefusal k a s q → n ≡ 0 → answer k (withdraw a s q) ≡ first ((above (heldBy k a s) q, 11) ∷ [])
+  unfolding answer tests
+  withdrawal-goes n e z = common-then _ n e ∙ cond-yes _ n (eq-eqb n 0 z)
+
+  pub withdrawal-over : (n : ℕ) → n ≡ commonRefusal k a s q → n ≡ 0 → heldBy k a s < q → 11 ≡ answer k (withdraw a s q)
+  unfolding first
+  withdrawal-over n e z h = sym (withdrawal-goes n e z ∙ rw (lt-ltb (heldBy k a s) q h))
+
+  pub withdrawal-fine : (n : ℕ) → n ≡ commonRefusal k a s q → n ≡ 0 → q ≤ heldBy k a s → 0 ≡ answer k (withdraw a s q)
+  unfolding first
+  withdrawal-fine n e z h = sym (withdrawal-goes n e z ∙ rw (le-ltb (heldBy k a s) q h))
+
+  -- ── what an accepted call may count on ──
+
+  pub deposit-passed : answer k (deposit a s q) ≡ 0 → (sound k ≡ true) × MayHold k a s q
+  unfolding answer answerSound
+  deposit-passed e = let f = passed (not (sound k)) 0 _ e in (not-false (sound k) (f .0), may-deposit k a s q (f .1) .0)
+
+  pub withdrawal-passed : answer k (withdraw a s q) ≡ 0 → MayHold k a s q × (q ≤ heldBy k a s)
+  unfolding answer answerSound
+  withdrawal-passed e = may-withdraw k a s q (passed (not (sound k)) 0 _ e .1)
+
+  -- each entry of a sound book is within 10^12
+  entries-small : sound k ≡ true → all (λ h. leb h mostHeld) (k .holdings) ≡ true
+  unfolding holdingsFit
+  entries-small e = both-hold (all (λ h. leb h mostHeld) (k .holdings)) (all (λ t. leb t mostHeld) (totalsHeld (k .holdings))) (sound-parts k e .holdings) .0
+
+  pub totals-ask : commonRefusal k a s q ≡ 0 → all (λ h. leb h mostHeld) (k .holdings) ≡ true
+  totals-ask e = entries-small (common-passed e .0)
+
+  pub total-small : (ts : List ℕ) → commonRefusal k a s q ≡ 0 → ts ≡ totalsHeld (k .holdings) → length (k .holdings) ≡ accounts * securities → getD ts s 0 ≤ mostHeld
+  unfolding totalHeld
+  total-small ts e t long = let p = common-passed e in rw t (total-fits k s (sound-parts k (p .0) .holdings) long (p .1 .1 .0))
+
+  pub entry-small : answer k (deposit a s q) ≡ 0 → length (k .holdings) ≡ accounts * securities → getD (k .holdings) (a * 32 + s) 0 ≤ mostHeld
+  entry-small e long =
+      let p = deposit-passed e in
+      let x = p .1 .account in
+      let y = p .1 .security in
+      leb-true _ mostHeld (all-at (λ h. leb h mostHeld) (k .holdings) (a * 32 + s) 0 (entries-small (p .0)) (omega arith))

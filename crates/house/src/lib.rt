@@ -1,0 +1,8 @@
+// The public calls over lent bytes (document 01, "Refusal numbers" and the rules of each call). None requires anything
+// of its caller: every input is answered, and a refused call leaves each byte as it was.
+mod creation;
+mod holdings;
+
+pub use creation::create;
+pub use holdings::deposit;
+pub use holdings::withdraw;
