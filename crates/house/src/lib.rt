@@ -2,7 +2,11 @@
 // of its caller: every input is answered, and a refused call leaves each byte as it was.
 mod creation;
 mod holdings;
+mod trades;
 
 pub use creation::create;
 pub use holdings::deposit;
 pub use holdings::withdraw;
+pub use trades::amend;
+pub use trades::enter;
+pub use trades::exclude;
