@@ -36,8 +36,8 @@ pub fn enter(book: &mut [u8], trade: Trade) -> u8
     if refusal != 0 {
         return refusal;
     }
-    let next = with_entered(k, trade);
-    store(next, book);
+    let entered = with_entered(k, trade);
+    store(entered, book);
     0
 }
 
@@ -62,8 +62,8 @@ pub fn amend(book: &mut [u8], trade: Trade) -> u8
     if refusal != 0 {
         return refusal;
     }
-    let next = with_amended(k, trade);
-    store(next, book);
+    let amended = with_amended(k, trade);
+    store(amended, book);
     0
 }
 
@@ -88,7 +88,7 @@ pub fn exclude(book: &mut [u8], number: u16) -> u8
     if refusal != 0 {
         return refusal;
     }
-    let next = with_excluded(k, number);
-    store(next, book);
+    let excluded = with_excluded(k, number);
+    store(excluded, book);
     0
 }
