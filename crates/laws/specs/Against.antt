@@ -83,12 +83,12 @@ module _ (p o : Position) (k : ℕ) (f : Facing p o) (hp : k ≤ natAbs (quantit
 -- ── one step ──
 
 module _ (b : Book) (p o : Position) (os : List Position) (cs : List Mils) where
-  against-met : faces p o ≡ true
+  pub against-met : faces p o ≡ true
       → against b p (o ∷ os) cs ≡ inFront (without o (smaller p o)) (against b (without p (smaller p o)) os (chargedBoth b cs o p (smaller p o)))
   unfolding against
   against-met e = rw e
 
-  against-passed : faces p o ≡ false → against b p (o ∷ os) cs ≡ inFront o (against b p os cs)
+  pub against-passed : faces p o ≡ false → against b p (o ∷ os) cs ≡ inFront o (against b p os cs)
   unfolding against
   against-passed e = rw e
 

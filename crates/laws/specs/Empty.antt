@@ -21,7 +21,7 @@ nothing-held : byAccount {A = ℕ} securities accounts (replicate (accounts * se
 unfolding byAccount
 nothing-held = refl
 
-nothing-total : totalsHeld (replicate (accounts * securities) 0) ≡ replicate securities 0
+pub nothing-total : totalsHeld (replicate (accounts * securities) 0) ≡ replicate securities 0
 unfolding totalsHeld totals byAccount added
 nothing-total = refl
 

@@ -77,7 +77,7 @@ module _ (k : Book) (ts : List Trade) (f : Fit k ts) where
 
 -- what a sound book says of its list
 module _ (k : Book) (e : tradesFit k ≡ true) where
-  was-apart : distinct (map (λ t. t .number) (listOf k)) ≡ true
+  pub was-apart : distinct (map (λ t. t .number) (listOf k)) ≡ true
   unfolding tradesFit
   was-apart = both-hold (distinct (map (λ t. t .number) (listOf k))) _ (both-hold (leb (k .entries) mostTrades) _ e .1) .0
 

@@ -89,11 +89,11 @@ module _ (k : Book) (t : Trade) (e : listable k t ≡ true) where
 -- ── the list ──
 
 module _ (k : Book) (fit : tradesFit k ≡ true) where
-  fit-few : leb (k .entries) mostTrades ≡ true
+  pub fit-few : leb (k .entries) mostTrades ≡ true
   unfolding tradesFit
   fit-few = both-hold (leb (k .entries) mostTrades) _ fit .0
 
-  fit-each : all (listable k) (listOf k) ≡ true
+  pub fit-each : all (listable k) (listOf k) ≡ true
   unfolding tradesFit
   fit-each =
       let x = both-hold (leb (k .entries) mostTrades) _ fit in

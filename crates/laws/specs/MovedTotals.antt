@@ -18,7 +18,7 @@ use Rattle.laws.specs.Walks.{all-at}
 use Rattle.laws.specs.Totals.{totals-held-length, held-part, next-long, total-there, total-elsewhere}
 
 module _ (hs : List ℕ) (long : length hs ≡ accounts * securities) where
-  total-within : (most u : ℕ) → all (λ t. leb t most) (totalsHeld hs) ≡ true → u < securities → totalHeld hs u ≤ most
+  pub total-within : (most u : ℕ) → all (λ t. leb t most) (totalsHeld hs) ≡ true → u < securities → totalHeld hs u ≤ most
   unfolding totalHeld
   total-within most u a h =
       leb-true (getD (totalsHeld hs) u 0) most (all-at (λ t. leb t most) (totalsHeld hs) u 0 a (omega (arith, totals-held-length hs long)))

@@ -84,7 +84,7 @@ module _ (b : Book) (s : ℕ) (hs : s < 32) (ok : sound b ≡ true) (shape : Sha
   settled-holdings = ap (λ (k : Book). k .holdings) (settled-is b s hs ok shape) ∙ closed-holdings b x₁
 
   -- each security's total stays
-  met-total : (u : ℕ) → u < securities → (x : Walking) (g r k : ℕ) → Steady b x → Meets b s x g r k → totalHeld (x .holdings) u ≡ totalHeld (b .holdings) u
+  pub met-total : (u : ℕ) → u < securities → (x : Walking) (g r k : ℕ) → Steady b x → Meets b s x g r k → totalHeld (x .holdings) u ≡ totalHeld (b .holdings) u
       → totalHeld (metAt b s x g r k .holdings) u ≡ totalHeld (b .holdings) u
   unfolding metAt
   met-total u hu x g r k c m e =

@@ -65,11 +65,11 @@ chosen-le : (t : Bool) (m n : ℕ) → m ≤ n → cond t m 0 ≤ n
 chosen-le true m n h = h
 chosen-le false m n h = omega arith
 
-owes-size : (d s : ℕ) (p : Position) → owes d s p ≤ natAbs (quantityOf p)
+pub owes-size : (d s : ℕ) (p : Position) → owes d s p ≤ natAbs (quantityOf p)
 unfolding owes
 owes-size d s p = chosen-le (isDueIn d s p) (shortOf (quantityOf p)) (natAbs (quantityOf p)) (short-size (quantityOf p))
 
-wants-size : (d s : ℕ) (p : Position) → wants d s p ≤ natAbs (quantityOf p)
+pub wants-size : (d s : ℕ) (p : Position) → wants d s p ≤ natAbs (quantityOf p)
 unfolding wants
 wants-size d s p = chosen-le (isDueIn d s p) (longOf (quantityOf p)) (natAbs (quantityOf p)) (long-size (quantityOf p))
 
@@ -77,7 +77,7 @@ module _ (b : Book) (s : ℕ) where
   abbrev d : ℕ
   d = b .day
 
-  meets : (x : Walking) (g r : ℕ) → g < length (x .records) → r < length (x .records) → 0 < sizeOf d s x g r → Meets b s x g r (sizeOf d s x g r)
+  pub meets : (x : Walking) (g r : ℕ) → g < length (x .records) → r < length (x .records) → 0 < sizeOf d s x g r → Meets b s x g r (sizeOf d s x g r)
   unfolding sizeOf leftToGive
   meets x g r hg hr h =
       let p : Position = row (x .records) g in
@@ -97,7 +97,7 @@ module _ (b : Book) (s : ℕ) where
         receives = v .2;
       }
 
-  steady-met : (x : Walking) (g r k : ℕ) → Meets b s x g r k → Steady b x → Steady b (metAt b s x g r k)
+  pub steady-met : (x : Walking) (g r k : ℕ) → Meets b s x g r k → Steady b x → Steady b (metAt b s x g r k)
   unfolding metAt moved
   steady-met x g r k m c =
       record {

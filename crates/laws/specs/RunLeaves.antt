@@ -93,7 +93,7 @@ module _ (b : Book) (s : ℕ) (hs : s < 32) (ok : sound b ≡ true) (shape : Sha
 
   -- what a record passes that loses shares, every record passes at the end
   module _ (t : Position → Bool) (still : (p : Position) (k : ℕ) → Loses b s p k → t p ≡ true → t (without p k) ≡ true) where
-    met-pass : (x : Walking) (g r k : ℕ) → Steady b x → Meets b s x g r k → all t (x .records) ≡ true → all t (metAt b s x g r k .records) ≡ true
+    pub met-pass : (x : Walking) (g r k : ℕ) → Steady b x → Meets b s x g r k → all t (x .records) ≡ true → all t (metAt b s x g r k .records) ≡ true
     unfolding metAt withoutBoth
     met-pass x g r k c m a =
         all-set t _ r (without (row (x .records) r) k)

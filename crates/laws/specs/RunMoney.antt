@@ -94,7 +94,7 @@ module _ (b : Book) (s : ℕ) (hs : s < 32) (ok : sound b ≡ true) (shape : Sha
   abbrev x₁ : Walking
   x₁ = walked b s
 
-  currency-below : currencyOf b s < currencies
+  pub currency-below : currencyOf b s < currencies
   unfolding codesFit currencyOf unlisted
   currency-below =
       code-below (getD (b .currency) s 0) (all-at isCode (b .currency) s 0 (sound-parts b ok .codes) (omega (arith, shape .currency))) listed
@@ -136,7 +136,7 @@ module _ (b : Book) (s : ℕ) (hs : s < 32) (ok : sound b ≡ true) (shape : Sha
         ∙ walk-keeps b s (room b s hs ok shape) (λ x. worth b a c (x .charges) (x .records) ≡ worth b a c (b .charges) (openOf b)) met-worth refl
 
     -- and their sizes do not rise
-    met-weight : (x : Walking) (g r k : ℕ) → Steady b x → Meets b s x g r k → weight b a c (x .charges) (x .records) ≤ weight b a c (b .charges) (openOf b)
+    pub met-weight : (x : Walking) (g r k : ℕ) → Steady b x → Meets b s x g r k → weight b a c (x .charges) (x .records) ≤ weight b a c (b .charges) (openOf b)
         → weight b a c (metAt b s x g r k .charges) (metAt b s x g r k .records) ≤ weight b a c (b .charges) (openOf b)
     unfolding metAt
     met-weight x g r k t m e =

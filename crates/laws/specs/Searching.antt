@@ -50,7 +50,7 @@ module _ (b : Book) (s : ℕ) (hs : s < 32) where
 
   -- ── one step of the inner walk ──
 
-  meet-none : (g r : ℕ) (x : Walking) → sizeOf d s x g r ≡ 0 → meet b s g r x ≡ x
+  pub meet-none : (g r : ℕ) (x : Walking) → sizeOf d s x g r ≡ 0 → meet b s g r x ≡ x
   unfolding meet
   meet-none g r x e = rw (le-ltb 0 (sizeOf d s x g r) (omega arith)) (either (ltb 0 (wants d s (row (x .records) r))) x)
 
@@ -62,7 +62,7 @@ module _ (b : Book) (s : ℕ) (hs : s < 32) where
   unfolding sizeOf
   size-wanted g r x = omega arith
 
-  meet-some : (g r : ℕ) (x : Walking) → 0 < sizeOf d s x g r → meet b s g r x ≡ metAt b s x g r (sizeOf d s x g r)
+  pub meet-some : (g r : ℕ) (x : Walking) → 0 < sizeOf d s x g r → meet b s g r x ≡ metAt b s x g r (sizeOf d s x g r)
   unfolding meet
   meet-some g r x h = rw (lt-ltb 0 (sizeOf d s x g r) h, lt-ltb 0 (wants d s (row (x .records) r)) (omega (arith, size-wanted g r x)))
 

@@ -1,0 +1,275 @@
+-- The theorems of the whole, for every history of calls from an empty book: the statements to quote. Their words are in Histories; their proofs in the other files.
+use mathlib.Core.Path.{_≡_, refl, sym, ap, ap₂, _∙_}
+use mathlib.Core.Bool.{true, false, cond}
+use mathlib.Core.Option.{some, none}
+use mathlib.Core.List.{List, [], _∷_, _++_}
+use Prim.Native.Nat.{ℕ, _+_, _<_, _≤_}
+use native.Mathlib.Nat.{zero-add}
+use lib.ListN.{length, getD}
+use lib.IntN.{pos, _+ℤ_}
+use Rattle.fields.specs.Field.{Bytes}
+use Rattle.rules.specs.Words.{all}
+use Rattle.rules.specs.Bounds.{securities, currencies}
+use Rattle.rules.specs.Book.{listOf, withList, holdingAt, emptyBook}
+use Rattle.rules.specs.Sound.{isCode, sound, totalHeld, distinct}
+use Rattle.rules.specs.Run.{Meeting, meetings, taken}
+use Rattle.rules.specs.Layout.{book, bookLength, bookOf, bytesOf}
+use Rattle.rules.specs.LayoutLaws.{bytes-book, book-bytes, book-fits, bytes-long}
+use Rattle.rules.specs.Calls.{Call, roll, figure, answer, answerBytes, afterBytes, figureBytes, createAnswer, createBytes}
+use Rattle.rules.specs.declared.Book.{Book}
+use Rattle.rules.specs.CallFile.{contentsOf, fileOf}
+use Rattle.laws.specs.Shaped.{Shaped, fits-shaped}
+use Rattle.laws.specs.Accepted.{may-create}
+use Rattle.laws.specs.ReadBack.{stored-empty, created-fits}
+use Rattle.laws.specs.Backed.{unmet, meeting-backed}
+use Rattle.history.specs.Histories.{accepted, made, logOf, rolls, others, survivors, tidy, lastForm, find, past, today, morning, EndsRolled, SameRoll}
+use Rattle.history.specs.Amounts.{openShares, moneyOpen, everCharged, deposited, withdrawn}
+use Rattle.history.specs.Steps.{Good, made-good, empty-good}
+use Rattle.history.specs.Rest.{apart}
+use Rattle.history.specs.Refusals.{never-1, never-13}
+use Rattle.history.specs.Survivors.{numbersOf, survivors-distinct}
+use Rattle.history.specs.Days.{tidy-book, tidy-log, tidy-others, tidy-survivors, tidy-roll, survivors-once, any-roll}
+use Rattle.history.specs.Forms.{forms-empty}
+use Rattle.history.specs.ManyDays.{past-today, past-none, past-ends, today-rolls, day-made, morning-list}
+use Rattle.history.specs.ZeroShares.{shares-zero}
+use Rattle.history.specs.ZeroMoney.{money-kept, nothing-yet}
+use Rattle.history.specs.Held.{held-kept, nothing-held}
+use Rattle.history.specs.Lent.{madeBytes, AllFit}
+use Rattle.history.specs.AllBytes.{bytes-of}
+use Rattle.history.specs.LentHistory.{answer-bytes, figure-bytes, made-bytes, made-fits, roll-bytes}
+use Rattle.history.specs.TidyFits.{fit-tidied}
+use Rattle.history.specs.FileHistory.{file-well, file-made}
+use Rattle.history.specs.Logs.{made-append, rolled-made}
+
+-- ── one day, from any sound book with an empty list: calls among which no roll is accepted (refused rolls may stand among them) ──
+
+module _ (k : Book) (is-sound : sound k ≡ true) (shaped : Shaped k) (no-trades : listOf k ≡ []) where
+  good : Good k
+  good = record { sound = is-sound; shaped = shaped }
+
+  module _ (cs : List Call) (day : rolls k cs ≡ false) where
+    -- The roll behind the day has the answer of the roll behind the tidy day, and leaves the same book: the accepted deposits, withdrawals and runs in
+    -- their order, and then the trades that survived, each entered once.
+    pub day-history : SameRoll (made k cs) (made k (tidy k cs))
+    day-history = tidy-roll k good no-trades cs day
+
+    -- Every call of the tidy day is accepted.
+    pub tidy-accepted : logOf k (tidy k cs) ≡ tidy k cs
+    tidy-accepted = tidy-log k good no-trades cs day
+
+    -- It ends at the day's book with only the survivors in its list.
+    pub tidy-ends : made k (tidy k cs) ≡ withList (made k cs) (survivors (listOf (made k cs)))
+    tidy-ends = tidy-book k good no-trades cs day
+
+    -- It has the same accepted deposits, withdrawals and runs in the same order, and the same survivors.
+    pub tidy-same : (others k (tidy k cs) ≡ others k cs) × (survivors (listOf (made k (tidy k cs))) ≡ survivors (listOf (made k cs)))
+    tidy-same = (tidy-others k good no-trades cs day, tidy-survivors k good no-trades cs day)
+
+    -- A number survives exactly in the form of its last accepted entry or amendment, with no accepted exclusion behind it, read off the log.
+    pub last-forms : (n : ℕ) → find n (survivors (listOf (made k cs))) ≡ lastForm n none (logOf k cs)
+    last-forms n = forms-empty n k cs good no-trades
+
+    -- Each survivor's number stands once.
+    pub once : distinct (numbersOf (survivors (listOf (made k cs)))) ≡ true
+    once = survivors-once k good no-trades cs day
+
+    -- Any other day with the same accepted deposits, withdrawals and runs in the same order and the same survivors, however they lie between each other.
+    pub history-any : (ds : List Call) → rolls k ds ≡ false → others k ds ≡ others k cs → survivors (listOf (made k ds)) ≡ survivors (listOf (made k cs))
+        → SameRoll (made k ds) (made k cs)
+    history-any ds d e f = any-roll k good ds cs d day e f
+
+-- ── any number of days, from an empty book ──
+
+module _ (codes : List ℕ) (long : length codes ≡ securities) (known : all isCode codes ≡ true) where
+  abbrev pub begin : Book
+  begin = emptyBook codes
+
+  begin-good : Good begin
+  begin-good = empty-good codes long known
+
+  begin-list : listOf begin ≡ []
+  unfolding listOf emptyBook
+  begin-list = refl
+
+  module _ (cs : List Call) where
+    every-good : Good (made begin cs)
+    every-good = made-good begin cs begin-good
+
+    -- Every book that a history reaches is sound, and its tables have their lengths;
+    pub every-book-sound : sound (made begin cs) ≡ true
+    every-book-sound = every-good .sound
+
+    pub every-book-shaped : Shaped (made begin cs)
+    every-book-shaped = every-good .shaped
+
+    -- so no call is refused by 1 or 13.
+    pub refusal-1-never : (c : Call) → answer (made begin cs) c ≡ 1 → ⊥
+    refusal-1-never c = never-1 (made begin cs) c every-good
+
+    pub refusal-13-never : (c : Call) → answer (made begin cs) c ≡ 13 → ⊥
+    refusal-13-never c = never-13 (made begin cs) c every-good
+
+    -- ── history (demand 3) ──
+
+    -- The calls are those up to the last accepted roll, and a day behind it.
+    pub days-split : (past begin cs ++ today begin cs ≡ cs) × (rolls (morning begin cs) (today begin cs) ≡ false)
+    days-split = (past-today begin cs, today-rolls begin cs)
+
+    pub day-started : rolls begin cs ≡ true → EndsRolled begin (past begin cs)
+    day-started = past-ends begin cs
+
+    pub first-day : rolls begin cs ≡ false → morning begin cs ≡ begin
+    unfolding morning made
+    first-day e = ap (made begin) (past-none begin cs e)
+
+    morning-good : Good (morning begin cs)
+    unfolding morning
+    morning-good = made-good begin (past begin cs) begin-good
+
+    -- After each accepted roll the book is the one whose day started the same and was tidy: the same accepted deposits, withdrawals and runs in the same
+    -- order, only the trades that survived, each once, and then that one roll. (A refused roll is refused alike.)
+    pub history : SameRoll (made begin cs) (made (morning begin cs) (tidy (morning begin cs) (today begin cs)))
+    history =
+        let m = morning begin cs in
+        rw (sym (day-made begin cs))
+        (day-history m (morning-good .sound) (morning-good .shaped) (morning-list begin cs begin-list) (today begin cs) (today-rolls begin cs))
+
+    -- In one line: the calls and an accepted roll leave the book that the tidy day and that roll leave, from the same morning.
+    pub history-rolled : answer (made begin cs) roll ≡ 0
+        → made begin (cs ++ (roll ∷ [])) ≡ made (morning begin cs) (tidy (morning begin cs) (today begin cs) ++ (roll ∷ []))
+    history-rolled e =
+        let m = morning begin cs in
+        let d = tidy m (today begin cs) in
+        rolled-made begin cs e ∙ history .1 ∙ sym (rolled-made m d (sym (history .0) ∙ e))
+
+    -- Every call of the tidy day is accepted, and its deposits, withdrawals and runs and its survivors are those of the day.
+    pub history-tidy : let m = morning begin cs in let d = today begin cs in
+        (logOf m (tidy m d) ≡ tidy m d) × (others m (tidy m d) ≡ others m d) × (survivors (listOf (made m (tidy m d))) ≡ survivors (listOf (made begin cs)))
+    history-tidy =
+        let m = morning begin cs in
+        let d = today begin cs in
+        let e = morning-list begin cs begin-list in
+        let h = today-rolls begin cs in
+        rw (sym (day-made begin cs)) (tidy-log m morning-good e d h, tidy-others m morning-good e d h, tidy-survivors m morning-good e d h)
+
+    -- Each survivor is in its last accepted form of the day, by the log of the day, and its number stands once.
+    pub history-forms : (n : ℕ) → find n (survivors (listOf (made begin cs))) ≡ lastForm n none (logOf (morning begin cs) (today begin cs))
+    history-forms n =
+        rw (sym (day-made begin cs)) (forms-empty n (morning begin cs) (today begin cs) morning-good (morning-list begin cs begin-list))
+
+    pub history-once : distinct (numbersOf (survivors (listOf (made begin cs)))) ≡ true
+    history-once = survivors-distinct (listOf (made begin cs)) (apart (made begin cs) every-good)
+
+    -- ── zero totals (demand 3) ──
+
+    -- Each security's open quantities total zero over all accounts;
+    pub shares-total-zero : (s : ℕ) → s < securities → openShares (made begin cs) s ≡ pos 0
+    shares-total-zero s h = shares-zero (made begin cs) every-good s h
+
+    -- in each currency the money ever charged plus the money still open totals zero.
+    pub money-total-zero : (c : ℕ) → c < currencies → everCharged begin cs c +ℤ moneyOpen (made begin cs) c ≡ pos 0
+    money-total-zero c h = money-kept begin cs c begin-good h ∙ nothing-yet codes c h
+
+    -- ── holdings (demand 3) ──
+
+    -- Nobody delivers shares not held at that moment: in a run, each meeting m behind the meetings ms takes at most what the giver's account then holds.
+    pub deliveries-held : (s : ℕ) (ms : List Meeting) (m : Meeting) (rest : List Meeting) → meetings (made begin cs) s ≡ ms ++ (m ∷ rest)
+        → (0 < m .shares) × (m .shares ≤ getD (taken (made begin cs) s (unmet (made begin cs)) ms .holdings) (holdingAt (m .giver .account) s) 0)
+    deliveries-held s ms m rest e = meeting-backed (made begin cs) s ms m rest e
+
+    -- What all accounts hold of a security is what was deposited less what was withdrawn.
+    pub held-is-deposited : (s : ℕ) → s < securities → totalHeld (made begin cs .holdings) s + withdrawn begin cs s ≡ deposited begin cs s
+    held-is-deposited s h = held-kept begin cs s begin-good h ∙ rw (nothing-held codes s h) (zero-add (deposited begin cs s))
+
+-- ── over lent bytes: an accepted creation, and then calls whose arguments fit their types ──
+
+module _ (bs codes : List ℕ) (created : createAnswer bs codes ≡ 0) (cs : List Call) (fit : AllFit cs) where
+  codes-long : length codes ≡ securities
+  codes-long = may-create bs codes created .0
+
+  codes-known : all isCode codes ≡ true
+  codes-known = may-create bs codes created .1
+
+  -- the book of the definitions, and the bytes
+  abbrev pub reached : Book
+  reached = made (emptyBook codes) cs
+
+  abbrev pub lent : List ℕ
+  lent = madeBytes (createBytes bs codes) cs
+
+  from-created : (ds : List Call) → AllFit ds → madeBytes (createBytes bs codes) ds ≡ bytesOf (made (emptyBook codes) ds)
+  from-created ds f =
+      ap (λ (l : List ℕ). madeBytes l ds) (stored-empty bs codes created)
+      ∙ made-bytes (emptyBook codes) ds (empty-good codes codes-long codes-known) (created-fits bs codes created) f
+
+  -- The bytes that the public calls leave, one after another, are the bytes of the history's book;
+  pub bytes-are-history : lent ≡ bytesOf reached
+  bytes-are-history = from-created cs fit
+
+  -- its values fit, so that the next call reads this book, and what was said above of the book holds of the bytes;
+  pub every-book-fits : book .Ok reached
+  every-book-fits = made-fits (emptyBook codes) cs (empty-good codes codes-long codes-known) (created-fits bs codes created) fit
+
+  pub bytes-are-read : bookOf lent ≡ reached
+  bytes-are-read = ap bookOf bytes-are-history ∙ book-bytes reached every-book-fits
+
+  -- they are 42,278 bytes;
+  pub bytes-are-bytes : Bytes lent × (length lent ≡ bookLength)
+  bytes-are-bytes = rw bytes-are-history (bytes-of reached, bytes-long reached every-book-fits)
+
+  -- and the next call gives the answer and the figure of the definitions.
+  pub bytes-answer : (c : Call) → answerBytes lent c ≡ answer reached c
+  bytes-answer c = ap (λ (l : List ℕ). answerBytes l c) bytes-are-history ∙ answer-bytes reached every-book-fits c
+
+  pub bytes-figure : (c : Call) → figureBytes lent c ≡ cond (accepted reached c) (figure reached c) 0
+  bytes-figure c = ap (λ (l : List ℕ). figureBytes l c) bytes-are-history ∙ figure-bytes reached every-book-fits c
+
+  -- History over bytes: after each accepted roll the bytes are those of the same past, the tidy day and that one roll.
+  abbrev pub tidied : List Call
+  tidied = past (emptyBook codes) cs ++ tidy (morning (emptyBook codes) cs) (today (emptyBook codes) cs)
+
+  tidied-fit : AllFit tidied
+  tidied-fit = fit-tidied (emptyBook codes) cs (empty-good codes codes-long codes-known) (created-fits bs codes created) fit
+
+  same-book : SameRoll reached (made (emptyBook codes) tidied)
+  unfolding morning
+  same-book =
+      let k = emptyBook codes in
+      rw (made-append k (past k cs) (tidy (made k (past k cs)) (today k cs))) (history codes codes-long codes-known cs)
+
+  pub bytes-history : answerBytes lent roll ≡ 0
+      → (answerBytes (madeBytes (createBytes bs codes) tidied) roll ≡ 0) × (afterBytes lent roll ≡ afterBytes (madeBytes (createBytes bs codes) tidied) roll)
+  bytes-history =
+      rw (bytes-are-history, from-created tidied tidied-fit)
+      (roll-bytes reached (made (emptyBook codes) tidied) every-book-fits
+      (made-fits (emptyBook codes) tidied (empty-good codes codes-long codes-known) (created-fits bs codes created) tidied-fit) same-book)
+
+-- Any bytes that are a sound book: the calls over them are the history of the definitions from it.
+pub any-bytes : (bs : List ℕ) (cs : List Call) → Bytes bs → length bs ≡ bookLength → sound (bookOf bs) ≡ true → AllFit cs
+    → madeBytes bs cs ≡ bytesOf (made (bookOf bs) cs)
+any-bytes bs cs h long ok fit =
+    let fits = book-fits bs h long in
+    ap (λ (l : List ℕ). madeBytes l cs) (sym (bytes-book bs h long))
+    ∙ made-bytes (bookOf bs) cs (record { sound = ok; shaped = fits-shaped (bookOf bs) fits }) fits fit
+
+-- ── call files: the book that a file of bytes leaves is one that a history from an empty book reaches, so that all of the above holds of it ──
+
+module _ (file codes : List ℕ) (bytes : Bytes file) (created : contentsOf file .codes ≡ some codes) where
+  pub file-codes : (length codes ≡ securities) × (all isCode codes ≡ true)
+  file-codes = file-well file bytes .codes codes created
+
+  pub file-calls : AllFit (contentsOf file .calls)
+  file-calls = file-well file bytes .calls
+
+  pub file-history : fileOf file .book ≡ some (made (emptyBook codes) (contentsOf file .calls))
+  file-history = file-made file codes created
+
+-- ── one result ──
+
+-- A promise that is an equation leaves one result: any two values that meet it are equal.
+pub one-result : {A : Type 0} (d x y : A) → x ≡ d → y ≡ d → x ≡ y
+one-result d x y e f = e ∙ sym f
+
+-- So does one of two equations, as each public call over lent bytes has: for the answer, and for every byte of the book.
+pub one-result-both : {A B : Type 0} (d : A) (e : B) (x y : A × B) → (x .0 ≡ d) × (x .1 ≡ e) → (y .0 ≡ d) × (y .1 ≡ e) → x ≡ y
+one-result-both d e x y p q = ap₂ (λ a b. (a, b)) (one-result d (x .0) (y .0) (p .0) (q .0)) (one-result e (x .1) (y .1) (p .1) (q .1))

@@ -1,0 +1,1 @@
+// The theorems of the whole, over every history of calls: no code.
