@@ -1,8 +1,9 @@
 -- What the readers of the book return: fields read at their places make the row, and the parts read at theirs the book.
 -- The layout reads from the front, what is left after each field; the code reads by place. These laws are the step between.
-use mathlib.Core.Path.{_≡_, refl, sym, ap, _∙_}
+use mathlib.Core.Path.{_≡_, refl, sym, ap, ap₂, _∙_}
 use mathlib.Core.List.{List}
-use Prim.Native.Nat.{ℕ, _+_}
+use Prim.Native.Nat.{ℕ, zero, suc, _+_, _*_, _^_}
+use native.Mathlib.Nat.{pow-suc, mul-assoc, add-zero, add-suc}
 use native.Mathlib.Omega.{arith}
 use lib.IntN.{ℤ}
 use lib.ListN.{drop}
@@ -23,8 +24,20 @@ further : (n at to : ℕ) (l m : List ℕ) → at + n ≡ to → m ≡ drop at l
 further n at to l m e h = ap (drop n) h ∙ drop-drop n at l ∙ ap (λ (k : ℕ). drop k l) e
 
 -- a field at a place, as the layout reads it
-front : (w at : ℕ) (l m : List ℕ) (x : ℕ) → m ≡ drop at l → x ≡ field w at l → x ≡ field w 0 m
+pub front : (w at : ℕ) (l m : List ℕ) (x : ℕ) → m ≡ drop at l → x ≡ field w at l → x ≡ field w 0 m
 front w at l m x h e = e ∙ sym (field-at w at l) ∙ ap (field w 0) (sym h)
+
+-- a field is its high bytes and its low ones
+halves : (v w at : ℕ) (l : List ℕ) → field (v + w) at l ≡ field v at l * 256 ^ w + field w (at + v) l
+unfolding field
+halves v zero at l = rw (add-zero v) (omega arith)
+halves v (suc w) at l =
+    let i : at + v + w ≡ at + (v + w) = omega arith in
+    let m : field v at l * 256 ^ suc w ≡ field v at l * 256 ^ w * 256 = ap (λ (n : ℕ). field v at l * n) (pow-suc 256 w) ∙ sym (mul-assoc (field v at l) (256 ^ w) 256) in
+    rw (add-suc v w, halves v w at l, ← i) (omega (arith, m))
+
+pub word-read : (at : ℕ) (l : List ℕ) (h n : ℕ) → h ≡ field 4 at l → n ≡ field 4 (at + 4) l → h * 4_294_967_296 + n ≡ field 8 at l
+word-read at l h n e f = ap₂ (λ (x y : ℕ). x * 4_294_967_296 + y) e f ∙ sym (halves 4 4 at l)
 
 -- ── rows ──
 
@@ -87,6 +100,25 @@ trade-read at l t n b s c q p =
 
 -- ── the book ──
 
+-- what is left of a book's bytes after each of its parts
+pub after-codes : (l : List ℕ) → drop 32 (drop 2 l) ≡ drop recordsPlace l
+after-codes l = further 32 codesPlace recordsPlace l (drop 2 l) refl refl
+
+pub after-records : (l : List ℕ) → drop 2 (drop 32 (drop 2 l)) ≡ drop positionsPlace l
+after-records l = further 2 recordsPlace positionsPlace l (drop 32 (drop 2 l)) refl (after-codes l)
+
+pub after-positions : (l : List ℕ) → drop 20_480 (drop 2 (drop 32 (drop 2 l))) ≡ drop holdingsPlace l
+after-positions l = further 20_480 positionsPlace holdingsPlace l (drop 2 (drop 32 (drop 2 l))) refl (after-records l)
+
+pub after-holdings : (l : List ℕ) → drop 16_384 (drop 20_480 (drop 2 (drop 32 (drop 2 l)))) ≡ drop chargesPlace l
+after-holdings l = further 16_384 holdingsPlace chargesPlace l (drop 20_480 (drop 2 (drop 32 (drop 2 l)))) refl (after-positions l)
+
+pub after-charges : (l : List ℕ) → drop 2_048 (drop 16_384 (drop 20_480 (drop 2 (drop 32 (drop 2 l))))) ≡ drop entriesPlace l
+after-charges l = further 2_048 chargesPlace entriesPlace l (drop 16_384 (drop 20_480 (drop 2 (drop 32 (drop 2 l))))) refl (after-holdings l)
+
+pub after-entries : (l : List ℕ) → drop 2 (drop 2_048 (drop 16_384 (drop 20_480 (drop 2 (drop 32 (drop 2 l)))))) ≡ drop tradesPlace l
+after-entries l = further 2 entriesPlace tradesPlace l (drop 2_048 (drop 16_384 (drop 20_480 (drop 2 (drop 32 (drop 2 l)))))) refl (after-charges l)
+
 book-same : {d d′ n n′ e e′ : ℕ} {c c′ h h′ : List ℕ} {p p′ : List Position} {m m′ : List Mils} {t t′ : List Trade}
     → d ≡ d′ → c ≡ c′ → n ≡ n′ → p ≡ p′ → h ≡ h′ → m ≡ m′ → e ≡ e′ → t ≡ t′
     → _≡_ {A = Book} (record { day = d; currency = c; records = n; positions = p; holdings = h; charges = m; entries = e; trades = t })
@@ -105,22 +137,10 @@ pub book-read : (l : List ℕ) (k : Book)
     → k ≡ bookOf l
 unfolding bookOf
 book-read l k d c r p h m e t =
-    let at-codes = drop 2 l in
-    let at-records = drop 32 at-codes in
-    let at-positions = drop 2 at-records in
-    let at-holdings = drop 20_480 at-positions in
-    let at-charges = drop 16_384 at-holdings in
-    let at-entries = drop 2_048 at-charges in
-    let after-codes = further 32 codesPlace recordsPlace l at-codes refl refl in
-    let after-records = further 2 recordsPlace positionsPlace l at-records refl after-codes in
-    let after-positions = further 20_480 positionsPlace holdingsPlace l at-positions refl after-records in
-    let after-holdings = further 16_384 holdingsPlace chargesPlace l at-holdings refl after-positions in
-    let after-charges = further 2_048 chargesPlace entriesPlace l at-charges refl after-holdings in
-    let after-entries = further 2 entriesPlace tradesPlace l at-entries refl after-charges in
-    let r′ = front 2 recordsPlace l at-records (k .records) after-codes r in
-    let p′ = p ∙ ap (readRows position 1_024) (sym after-records) in
-    let h′ = h ∙ ap (readRows (number 8) 2_048) (sym after-positions) in
-    let m′ = m ∙ ap (readRows amount 256) (sym after-holdings) in
-    let e′ = front 2 entriesPlace l at-entries (k .entries) after-charges e in
-    let t′ = t ∙ ap (readRows trade 256) (sym after-entries) in
+    let r′ = front 2 recordsPlace l _ (k .records) (after-codes l) r in
+    let p′ = p ∙ ap (readRows position 1_024) (sym (after-records l)) in
+    let h′ = h ∙ ap (readRows (number 8) 2_048) (sym (after-positions l)) in
+    let m′ = m ∙ ap (readRows amount 256) (sym (after-holdings l)) in
+    let e′ = front 2 entriesPlace l _ (k .entries) (after-charges l) e in
+    let t′ = t ∙ ap (readRows trade 256) (sym (after-entries l)) in
     book-same d c r′ p′ h′ m′ e′ t′

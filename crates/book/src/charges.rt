@@ -2,16 +2,28 @@
 // A signed number stands there as its 64 bits.
 use crate::layout::CHARGE_BYTES;
 use crate::layout::CHARGES;
-use fields::get;
+use crate::word::word;
 use fields::put;
 use units::Mils;
 use units::Whole;
 ghost use mathlib.Core.Path.{_≡_};
-ghost use lib.ListN.{length, drop};
+ghost use Prim.Native.Nat.{_*_, _<_};
+ghost use lib.ListN.{length, getD, drop};
+ghost use lib.IntN.{pos};
 ghost use Rattle.fields.specs.Field.{stored};
 ghost use Rattle.fields.specs.Codec.{readRows, writeRows};
-ghost use Rattle.rules.specs.Layout.{amount, bookLength};
+ghost use Rattle.units.specs.Units.{mils};
+ghost use Rattle.rules.specs.Bounds.{accounts, currencies};
+ghost use Rattle.rules.specs.Layout.{amount, bookLength, bookOf};
 ghost use Rattle.book.specs.Places.{chargesPlace};
+
+// One charge where it stands.
+pub fn charge_at(b: &[u8], i: usize) -> Mils
+    requires { ⌜ (length (now b) ≡ bookLength) × (i < accounts * currencies) ⌝ }
+    ensures { λ r. ⌜ r ≡ getD (bookOf (now (b .entry)) .charges) i (mils (pos 0)) ⌝ }
+{
+    Mils::from_bits(word(b, CHARGES + i * CHARGE_BYTES))
+}
 
 pub(crate) fn charges_at(b: &[u8]) -> [Mils; 256]
     requires { ⌜ length (now b) ≡ bookLength ⌝ }
@@ -21,7 +33,7 @@ pub(crate) fn charges_at(b: &[u8]) -> [Mils; 256]
     let mut t = [none; 256];
     let mut i: usize = 0;
     while i < 256 {
-        t[i] = Mils::from_bits(get(b, CHARGES + i * CHARGE_BYTES, 8));
+        t[i] = Mils::from_bits(word(b, CHARGES + i * CHARGE_BYTES));
         i += 1;
     }
     t

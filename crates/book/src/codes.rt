@@ -5,11 +5,28 @@ use fields::get;
 use fields::put;
 use fields::wide;
 ghost use mathlib.Core.Path.{_≡_};
-ghost use lib.ListN.{length, drop};
+ghost use Prim.Native.Nat.{_<_};
+ghost use lib.ListN.{length, getD, drop};
 ghost use Rattle.fields.specs.Field.{stored};
 ghost use Rattle.fields.specs.Codec.{number, readRows, writeRows};
-ghost use Rattle.rules.specs.Layout.{bookLength};
+ghost use Rattle.rules.specs.Bounds.{securities};
+ghost use Rattle.rules.specs.Layout.{bookLength, bookOf};
 ghost use Rattle.book.specs.Places.{codesPlace};
+
+// The code of one security where it stands, and the code of each.
+pub fn code_at(b: &[u8], s: usize) -> u8
+    requires { ⌜ (length (now b) ≡ bookLength) × (s < securities) ⌝ }
+    ensures { λ r. ⌜ r ≡ getD (bookOf (now (b .entry)) .currency) s 0 ⌝ }
+{
+    get(b, CODES + s * CODE_BYTES, 1) as u8
+}
+
+pub fn codes_of(b: &[u8]) -> [u8; 32]
+    requires { ⌜ length (now b) ≡ bookLength ⌝ }
+    ensures { λ r. ⌜ r ≡ bookOf (now (b .entry)) .currency ⌝ }
+{
+    codes_at(b)
+}
 
 pub(crate) fn codes_at(b: &[u8]) -> [u8; 32]
     requires { ⌜ length (now b) ≡ bookLength ⌝ }

@@ -1,14 +1,33 @@
 // The holdings: 2,048 unsigned numbers, account by account and within an account security by security.
 use crate::layout::HOLDING_BYTES;
 use crate::layout::HOLDINGS;
-use fields::get;
+use crate::word::word;
 use fields::put;
 ghost use mathlib.Core.Path.{_≡_};
-ghost use lib.ListN.{length, drop};
+ghost use Prim.Native.Nat.{_*_, _<_};
+ghost use lib.ListN.{length, getD, set, drop};
 ghost use Rattle.fields.specs.Field.{stored};
 ghost use Rattle.fields.specs.Codec.{number, readRows, writeRows};
-ghost use Rattle.rules.specs.Layout.{bookLength};
+ghost use Rattle.rules.specs.Bounds.{accounts, securities};
+ghost use Rattle.rules.specs.Book.{withHoldings};
+ghost use Rattle.rules.specs.Layout.{bookLength, bookOf, bytesOf};
 ghost use Rattle.book.specs.Places.{holdingsPlace};
+
+// One holding where it stands.
+pub fn holding_at(b: &[u8], i: usize) -> u64
+    requires { ⌜ (length (now b) ≡ bookLength) × (i < accounts * securities) ⌝ }
+    ensures { λ r. ⌜ r ≡ getD (bookOf (now (b .entry)) .holdings) i 0 ⌝ }
+{
+    word(b, HOLDINGS + i * HOLDING_BYTES)
+}
+
+// The holding is changed where it stands: every other byte is left as it was.
+pub fn put_holding(b: &mut [u8], i: usize, v: u64)
+    requires { ⌜ (length (now b) ≡ bookLength) × (i < accounts * securities) ⌝ }
+    ensures { λ _. ⌜ now (b .exit) ≡ bytesOf (withHoldings (bookOf (now (b .entry))) (set (bookOf (now (b .entry)) .holdings) i v)) ⌝ }
+{
+    put(b, HOLDINGS + i * HOLDING_BYTES, 8, v);
+}
 
 pub(crate) fn holdings_at(b: &[u8]) -> [u64; 2048]
     requires { ⌜ length (now b) ≡ bookLength ⌝ }
@@ -17,7 +36,7 @@ pub(crate) fn holdings_at(b: &[u8]) -> [u64; 2048]
     let mut t = [0u64; 2048];
     let mut i: usize = 0;
     while i < 2048 {
-        t[i] = get(b, HOLDINGS + i * HOLDING_BYTES, 8);
+        t[i] = word(b, HOLDINGS + i * HOLDING_BYTES);
         i += 1;
     }
     t

@@ -1,22 +1,55 @@
 // The book, from lent bytes to a value and back (document 01: the layout of docs/BOOK.md). A call reads the whole book,
-// works on the value and writes it back; each table has a module, with what reads it and what writes it.
+// works on the value and writes it back; or it reads and writes single parts where they stand, and leaves the other
+// bytes alone. Each table has a module, with what reads it and what writes it.
 mod charges;
 mod codes;
 mod holdings;
 mod layout;
 mod positions;
 mod trades;
+mod word;
 
+pub use charges::charge_at;
+pub use codes::code_at;
+pub use codes::codes_of;
 use fields::get;
 use fields::put;
+pub use holdings::holding_at;
+pub use holdings::put_holding;
 pub use layout::BOOK_BYTES;
 use layout::DAY;
 use layout::ENTRIES;
 use layout::RECORDS;
+pub use positions::position_at;
 use rules::Book;
+pub use trades::put_list;
+pub use trades::trade_at;
+pub use trades::trades_of;
 ghost use mathlib.Core.Path.{_≡_};
 ghost use lib.ListN.{length};
 ghost use Rattle.rules.specs.Layout.{bookOf, bytesOf, bookLength};
+
+// The day, and the two counts, where they stand.
+pub fn day_at(b: &[u8]) -> u16
+    requires { ⌜ length (now b) ≡ bookLength ⌝ }
+    ensures { λ r. ⌜ r ≡ bookOf (now (b .entry)) .day ⌝ }
+{
+    get(b, DAY, 2) as u16
+}
+
+pub fn records_at(b: &[u8]) -> u16
+    requires { ⌜ length (now b) ≡ bookLength ⌝ }
+    ensures { λ r. ⌜ r ≡ bookOf (now (b .entry)) .records ⌝ }
+{
+    get(b, RECORDS, 2) as u16
+}
+
+pub fn entries_at(b: &[u8]) -> u16
+    requires { ⌜ length (now b) ≡ bookLength ⌝ }
+    ensures { λ r. ⌜ r ≡ bookOf (now (b .entry)) .entries ⌝ }
+{
+    get(b, ENTRIES, 2) as u16
+}
 
 // The book that some bytes are.
 pub fn load(b: &[u8]) -> Book

@@ -1,6 +1,7 @@
 // The position table: 1,024 rows of a position number, shares and money.
 use crate::layout::POSITION_BYTES;
 use crate::layout::POSITIONS;
+use crate::word::word;
 use fields::get;
 use fields::put;
 use rules::Position;
@@ -8,26 +9,36 @@ use units::Mils;
 use units::Shares;
 use units::Whole;
 ghost use mathlib.Core.Path.{_≡_};
-ghost use Prim.Native.Nat.{_+_, _≤_};
-ghost use lib.ListN.{length, drop};
+ghost use Prim.Native.Nat.{_+_, _<_, _≤_};
+ghost use lib.ListN.{length, getD, drop};
 ghost use Rattle.fields.specs.Field.{stored};
 ghost use Rattle.fields.specs.Codec.{readRows, writeRows};
-ghost use Rattle.rules.specs.Layout.{position, bookLength};
+ghost use Rattle.rules.specs.Bounds.{mostRecords};
+ghost use Rattle.rules.specs.Book.{noPosition};
+ghost use Rattle.rules.specs.Layout.{position, bookLength, bookOf};
 ghost use Rattle.book.specs.Places.{positionsPlace};
 
 // The row that begins at a byte: its number in 4 bytes, its shares and its money in 8 each.
-fn position_at(b: &[u8], at: usize) -> Position
+fn row_at(b: &[u8], at: usize) -> Position
     requires { ⌜ at + 20 ≤ length (now b) ⌝ }
     ensures { λ r. ⌜ r ≡ position .read (drop at (now (b .entry))) ⌝ }
 {
     let number = get(b, at, 4) as u32;
-    let quantity = Shares::from_bits(get(b, at + 4, 8));
-    let money = Mils::from_bits(get(b, at + 12, 8));
+    let quantity = Shares::from_bits(word(b, at + 4));
+    let money = Mils::from_bits(word(b, at + 12));
     Position {
         number: number,
         quantity: quantity,
         money: money,
     }
+}
+
+// One row of the table where it stands, for a test that copies no table.
+pub fn position_at(b: &[u8], i: usize) -> Position
+    requires { ⌜ (length (now b) ≡ bookLength) × (i < mostRecords) ⌝ }
+    ensures { λ r. ⌜ r ≡ getD (bookOf (now (b .entry)) .positions) i noPosition ⌝ }
+{
+    row_at(b, POSITIONS + i * POSITION_BYTES)
 }
 
 // All rows, used or not: whether the unused ones are zero is a question of soundness, and a book that is lent may hold anything.
@@ -43,7 +54,7 @@ pub(crate) fn positions_at(b: &[u8]) -> [Position; 1024]
     let mut t = [none; 1024];
     let mut i: usize = 0;
     while i < 1024 {
-        t[i] = position_at(b, POSITIONS + i * POSITION_BYTES);
+        t[i] = row_at(b, POSITIONS + i * POSITION_BYTES);
         i += 1;
     }
     t

@@ -1,4 +1,5 @@
 // Today's list: 256 rows of a trade number, the two accounts, the security, shares and price.
+use crate::layout::ENTRIES;
 use crate::layout::TRADE_BYTES;
 use crate::layout::TRADES;
 use fields::get;
@@ -7,15 +8,18 @@ use fields::wide;
 use rules::Trade;
 use units::Price;
 ghost use mathlib.Core.Path.{_≡_};
-ghost use Prim.Native.Nat.{_+_, _≤_};
-ghost use lib.ListN.{length, drop};
+ghost use Prim.Native.Nat.{_+_, _<_, _≤_};
+ghost use lib.ListN.{length, getD, drop};
 ghost use Rattle.fields.specs.Field.{stored};
 ghost use Rattle.fields.specs.Codec.{readRows, writeRows};
-ghost use Rattle.rules.specs.Layout.{trade, bookLength};
+ghost use Rattle.rules.specs.Bounds.{mostTrades};
+ghost use Rattle.rules.specs.Book.{noTrade};
+ghost use Rattle.rules.specs.Layout.{trade, bookLength, bookOf, bytesOf};
 ghost use Rattle.book.specs.Places.{tradesPlace};
+ghost use Rattle.book.specs.Changing.{withTable};
 
 // The row that begins at a byte: its number in 2 bytes, buyer, seller and security in 1 each, shares and price in 4 each.
-fn trade_at(b: &[u8], at: usize) -> Trade
+fn row_at(b: &[u8], at: usize) -> Trade
     requires { ⌜ at + 13 ≤ length (now b) ⌝ }
     ensures { λ r. ⌜ r ≡ trade .read (drop at (now (b .entry))) ⌝ }
 {
@@ -35,6 +39,30 @@ fn trade_at(b: &[u8], at: usize) -> Trade
     }
 }
 
+// One row of the list where it stands.
+pub fn trade_at(b: &[u8], i: usize) -> Trade
+    requires { ⌜ (length (now b) ≡ bookLength) × (i < mostTrades) ⌝ }
+    ensures { λ r. ⌜ r ≡ getD (bookOf (now (b .entry)) .trades) i noTrade ⌝ }
+{
+    row_at(b, TRADES + i * TRADE_BYTES)
+}
+
+// The whole table, and the table with its count put in its place: every other byte is left as it was.
+pub fn trades_of(b: &[u8]) -> [Trade; 256]
+    requires { ⌜ length (now b) ≡ bookLength ⌝ }
+    ensures { λ r. ⌜ r ≡ bookOf (now (b .entry)) .trades ⌝ }
+{
+    trades_at(b)
+}
+
+pub fn put_list(b: &mut [u8], n: u16, t: [Trade; 256])
+    requires { ⌜ length (now b) ≡ bookLength ⌝ }
+    ensures { λ _. ⌜ now (b .exit) ≡ bytesOf (withTable (bookOf (now (b .entry))) n t) ⌝ }
+{
+    put(b, ENTRIES, 2, n as u64);
+    put_trades(t, b);
+}
+
 // All rows, used or not, as in the position table.
 pub(crate) fn trades_at(b: &[u8]) -> [Trade; 256]
     requires { ⌜ length (now b) ≡ bookLength ⌝ }
@@ -51,7 +79,7 @@ pub(crate) fn trades_at(b: &[u8]) -> [Trade; 256]
     let mut t = [none; 256];
     let mut i: usize = 0;
     while i < 256 {
-        t[i] = trade_at(b, TRADES + i * TRADE_BYTES);
+        t[i] = row_at(b, TRADES + i * TRADE_BYTES);
         i += 1;
     }
     t

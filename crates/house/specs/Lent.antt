@@ -1,18 +1,22 @@
--- A call over lent bytes, by the ways that its code takes: the wrong length, a refusal, acceptance. And the same for creation.
+-- A call over lent bytes that are no sound book; and creation, by the ways that its code takes.
 use mathlib.Core.Path.{_≡_, sym, ap, _∙_}
-use mathlib.Core.Bool.{Bool, true, false, not, _&&_, _||_}
+use mathlib.Core.Bool.{Bool, true, false, not, _||_}
 use mathlib.Core.List.{List, [], _∷_}
 use Prim.Native.Nat.{ℕ}
 use native.Mathlib.Omega.{arith}
 use borrow.Author.Tests.{eq-eqb, ne-eqb}
 use lib.Dec.{eqb}
 use lib.ListN.{length}
+use lib.IntN.{pos}
+use Rattle.units.specs.Units.{shares}
 use Rattle.rules.specs.Words.{all, Test, first}
 use Rattle.rules.specs.Bounds.{securities}
 use Rattle.rules.specs.Book.{emptyBook}
 use Rattle.rules.specs.Layout.{bookLength, bookOf, bytesOf}
-use Rattle.rules.specs.Sound.{sound, notSound, isCode}
-use Rattle.rules.specs.Calls.{Call, tests, answer, after, answerBytes, afterBytes, createTests, createAnswer, createBytes}
+use Rattle.rules.specs.Sound.{notSound, isCode}
+use Rattle.rules.specs.Calls.{Call, run, tests, after, answerBytes, afterBytes, figureBytes, runAnswer, createTests, createAnswer, createBytes}
+use Rattle.rules.specs.declared.RunAnswer.the-variants.{Moved, RunRefused}
+use Rattle.laws.specs.Cases.{cond-no}
 
 -- what a test that was made gives
 pub stopped : (b : Bool) (n : ℕ) (ts : List Test) → b ≡ true → n ≡ first ((b, n) ∷ ts)
@@ -23,29 +27,20 @@ pub gone-on : (b : Bool) (n : ℕ) (ts : List Test) → b ≡ false → first ts
 unfolding first
 gone-on b n ts e = rw e
 
--- ── calls ──
+-- ── no sound book ──
 
-module _ (bs : List ℕ) (c : Call) where
-  -- by the answer: a refused call keeps the bytes, an accepted one leaves those of the book after it
-  keeps : (n : ℕ) → n ≡ answerBytes bs c → (n ≡ 0 → ⊥) → (n ≡ answerBytes bs c) × (bs ≡ afterBytes bs c)
-  unfolding afterBytes
-  keeps n e z = (e, rw (sym e, ne-eqb n 0 z))
+module _ (bs : List ℕ) (h : notSound bs ≡ true) where
+  pub unsound : (c : Call) → (1 ≡ answerBytes bs c) × (bs ≡ afterBytes bs c)
+  unfolding answerBytes afterBytes
+  unsound c =
+      let e : 1 ≡ answerBytes bs c = stopped (notSound bs) 1 (tests (bookOf bs) c) h in
+      (e, sym (cond-no (bytesOf (after (bookOf bs) c)) bs (ne-eqb (answerBytes bs c) 0 (λ z. omega (arith, e, z)))))
 
-  pub wrong-length : (length bs ≡ bookLength → ⊥) → (1 ≡ answerBytes bs c) × (bs ≡ afterBytes bs c)
-  unfolding answerBytes notSound
-  wrong-length h =
-      keeps 1 (stopped (notSound bs) 1 (tests (bookOf bs) c) (ap (λ (t : Bool). not (t && sound (bookOf bs))) (ne-eqb (length bs) bookLength h))) (λ z. omega arith)
-
-  asked : length bs ≡ bookLength → answerBytes bs c ≡ answer (bookOf bs) c
-  unfolding answerBytes notSound answer
-  asked h = ap (λ (t : Bool). first ((not (t && sound (bookOf bs)), 1) ∷ tests (bookOf bs) c)) (eq-eqb (length bs) bookLength h)
-
-  pub refused : (n : ℕ) → length bs ≡ bookLength → n ≡ answer (bookOf bs) c → (n ≡ 0 → ⊥) → (n ≡ answerBytes bs c) × (bs ≡ afterBytes bs c)
-  refused n h e z = keeps n (e ∙ sym (asked h)) z
-
-  pub accepted : (out : List ℕ) → length bs ≡ bookLength → answer (bookOf bs) c ≡ 0 → out ≡ bytesOf (after (bookOf bs) c) → (0 ≡ answerBytes bs c) × (out ≡ afterBytes bs c)
-  unfolding afterBytes
-  accepted out h e o = let z : answerBytes bs c ≡ 0 = asked h ∙ e in (sym z, rw (z, o))
+  pub run-unsound : (s : ℕ) → (RunRefused 1 ≡ runAnswer bs s) × (bs ≡ afterBytes bs (run s))
+  unfolding runAnswer
+  run-unsound s =
+      let u = unsound (run s) in
+      (ap RunRefused (u .0) ∙ sym (cond-no (Moved (shares (pos (figureBytes bs (run s))))) _ (ne-eqb (answerBytes bs (run s)) 0 (λ z. omega (arith, u .0, z)))), u .1)
 
 -- ── creation ──
 

@@ -1,4 +1,2 @@
--- What the public calls are proved by: laws of a call over lent bytes, and the tests that deposit and withdrawal share.
+-- What the public calls are proved by: a book that is not sound, and creation.
 pub mod Lent
-pub mod Holdings
-pub mod Entries

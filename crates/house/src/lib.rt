@@ -2,11 +2,17 @@
 // of its caller: every input is answered, and a refused call leaves each byte as it was.
 mod creation;
 mod holdings;
+mod marked;
+mod settlement;
 mod trades;
 
 pub use creation::create;
 pub use holdings::deposit;
 pub use holdings::withdraw;
+pub use marked::marks;
+pub use marking::price;
+pub use settlement::roll;
+pub use settlement::run;
 pub use trades::amend;
 pub use trades::enter;
 pub use trades::exclude;

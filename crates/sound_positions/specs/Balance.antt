@@ -13,13 +13,13 @@ use Rattle.integers.specs.Linear.{zlin}
 use Rattle.integers.specs.Sums.{sumBy}
 use Rattle.rules.specs.Words.{all, keep, total, from}
 use Rattle.rules.specs.Bounds.{securities, everySecurity}
-use Rattle.rules.specs.Book.{quantityOf, dueOf, isZero}
-use Rattle.rules.specs.Sound.{balanced, isDue}
+use Rattle.rules.specs.Book.{quantityOf, dueOf, isZero, openOf}
+use Rattle.rules.specs.Sound.{balanced, isDue, dueBalanced}
 use Rattle.rules.specs.declared.Position.{Position}
+use Rattle.rules.specs.declared.Book.{Book}
 use Rattle.laws.specs.Cases.{by-test, is-zero, zero-is}
 use Rattle.laws.specs.Keeping.{keep-same}
 use Rattle.sound_positions.specs.Table.{all-same}
-use Rattle.sound_positions.specs.declared.balance.Totals.{Totals}
 use Rattle.sound_positions.specs.Totalling.{longOf, shortOf, ofSecurity, Totalled}
 
 -- ── a total is zero ──
@@ -45,15 +45,15 @@ zero-sides ps =
 -- ── behind the pass ──
 
 -- the sides of a security are equal
-abbrev pub equalAt : Totals → ℕ → Bool
-equalAt t s = eqb (getD (t .receive) s 0) (getD (t .deliver) s 0)
+abbrev pub equalAt : List ℕ → List ℕ → ℕ → Bool
+equalAt receive deliver s = eqb (getD receive s 0) (getD deliver s 0)
 
-pub balanced-sides : (ps : List Position) (t : Totals) → Totalled ps t
-    → all (equalAt t) everySecurity ≡ balanced ps
+pub balanced-sides : (ps : List Position) (receive deliver : List ℕ) → Totalled longOf ps receive → Totalled shortOf ps deliver
+    → all (equalAt receive deliver) everySecurity ≡ balanced ps
 unfolding balanced
-balanced-sides ps t h =
-    all-same (equalAt t) (λ s. isZero (sumBy quantityOf (ofSecurity s ps))) everySecurity
-    (λ s. ap₂ eqb (h .long s) (h .short s) ∙ zero-sides (ofSecurity s ps))
+balanced-sides ps receive deliver h g =
+    all-same (equalAt receive deliver) (λ s. isZero (sumBy quantityOf (ofSecurity s ps))) everySecurity
+    (λ s. ap₂ eqb (h .sum s) (g .sum s) ∙ zero-sides (ofSecurity s ps))
 
 -- ── the two groups of due days ──
 
@@ -61,7 +61,7 @@ balanced-sides ps t h =
 unfoldable pub dueWithin : ℕ → ℕ → Position → Bool
 dueWithin first last p = leb first (dueOf p) && leb (dueOf p) last
 
-pub due-today : (day : ℕ) (ps : List Position) → keep (dueWithin 0 day) ps ≡ keep (isDue day) ps
+due-today : (day : ℕ) (ps : List Position) → keep (dueWithin 0 day) ps ≡ keep (isDue day) ps
 unfolding dueWithin isDue
 due-today day ps = keep-same (dueWithin 0 day) (isDue day) ps (λ p. rw (le-leb 0 (dueOf p) zero-le))
 
@@ -75,9 +75,18 @@ one-day m n =
     (λ b. rw (a, b, e)))
     (λ a. rw (a, e)))
 
-pub due-on : (day : ℕ) (ps : List Position) → keep (dueWithin day day) ps ≡ keep (λ p. eqb (dueOf p) day) ps
+due-on : (day : ℕ) (ps : List Position) → keep (dueWithin day day) ps ≡ keep (λ p. eqb (dueOf p) day) ps
 unfolding dueWithin
 due-on day ps = keep-same (dueWithin day day) (λ p. eqb (dueOf p) day) ps (λ p. one-day day (dueOf p))
+
+-- so the two tests of the code are the rule's
+pub due-by : (k : Book) (day : ℕ) (a b : Bool) → day ≡ k .day → a ≡ balanced (keep (dueWithin 0 day) (openOf k))
+    → b ≡ balanced (keep (dueWithin (day + 1) (day + 1)) (openOf k)) → a && b ≡ dueBalanced k
+unfolding dueBalanced
+due-by k day a b e p q =
+    ap₂ (λ (x y : Bool). x && y)
+    (p ∙ ap (λ (d : ℕ). balanced (keep (dueWithin 0 d) (openOf k))) e ∙ ap balanced (due-today (k .day) (openOf k)))
+    (q ∙ ap (λ (d : ℕ). balanced (keep (dueWithin (d + 1) (d + 1)) (openOf k))) e ∙ ap balanced (due-on (k .day + 1) (openOf k)))
 
 -- ── a loop over the securities ──
 from-length : (i n : ℕ) → length (from i n) ≡ n

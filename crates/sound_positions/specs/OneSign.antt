@@ -19,7 +19,7 @@ use Rattle.laws.specs.Cases.{by-test, true-false, both-hold, and-hold, cond-yes
 use Rattle.laws.specs.All.{all-by}
 use Rattle.laws.specs.Keeping.{keep-none, keep-yes, keep-no}
 use Rattle.laws.specs.Numbers.{account-below, security-below}
-use Rattle.sound_positions.specs.Table.{nothing, nothing-at, nothing-length, all-same}
+use Rattle.sound_positions.specs.Table.{nothing, nothing-at, nothing-length, all-same, all-two}
 
 -- the pairs of an account and a security
 abbrev pub places : ℕ
@@ -52,11 +52,6 @@ noClash seen (p ∷ ps) = fitsSeen seen p && noClash (withSign seen p) ps
 
 -- ── words ──
 
-and-mix : (a b c d : Bool) → (a && b) && (c && d) ≡ (a && c) && (b && d)
-and-mix true true c d = refl
-and-mix true false c d = sym (and-false c)
-and-mix false b c d = refl
-
 and-again : (a b : Bool) → a && (a && b) ≡ a && b
 and-again true b = refl
 and-again false b = refl
@@ -68,11 +63,6 @@ and-over false b c = refl
 and-true : (a : Bool) → a ≡ a && true
 and-true true = refl
 and-true false = refl
-
-all-two : {A : Type 0} (t u : A → Bool) (l : List A) → all (λ x. t x && u x) l ≡ all t l && all u l
-unfolding all
-all-two t u [] = refl
-all-two t u (x ∷ l) = ap (λ (b : Bool). (t x && u x) && b) (all-two t u l) ∙ and-mix (t x) (u x) (all t l) (all u l)
 
 eqb-swap : (m n : ℕ) → eqb m n ≡ eqb n m
 eqb-swap m n =

@@ -1,6 +1,6 @@
--- The position table: a loop over the records in use, and one over the room behind them, and what a test of each says of `all`.
+-- A table: a loop over the entries in use, and one over the room behind them, and what a test of each says of `all`.
 use mathlib.Core.Path.{_≡_, refl, sym, ap, _∙_}
-use mathlib.Core.Bool.{Bool, true, false}
+use mathlib.Core.Bool.{Bool, true, false, _&&_, and-false}
 use mathlib.Core.List.{List, [], _∷_}
 use Prim.Native.Nat.{ℕ, zero, suc, _+_, _<_, _≤_}
 use native.Mathlib.Numerals.{add-one}
@@ -60,6 +60,17 @@ pub all-same : {A : Type 0} (t u : A → Bool) (l : List A) → ((x : A) → t x
 unfolding all
 all-same t u [] h = refl
 all-same t u (x ∷ l) h = rw (h x, all-same t u l h)
+
+-- two tests of each element are two walks
+and-mix : (a b c d : Bool) → (a && b) && (c && d) ≡ (a && c) && (b && d)
+and-mix true true c d = refl
+and-mix true false c d = sym (and-false c)
+and-mix false b c d = refl
+
+pub all-two : {A : Type 0} (t u : A → Bool) (l : List A) → all (λ x. t x && u x) l ≡ all t l && all u l
+unfolding all
+all-two t u [] = refl
+all-two t u (x ∷ l) = ap (λ (b : Bool). (t x && u x) && b) (all-two t u l) ∙ and-mix (t x) (u x) (all t l) (all u l)
 
 -- ── what the first of the tests says, for those that count on it ──
 

@@ -26,7 +26,6 @@ use Rattle.laws.specs.Keeping.{keep-append, keep-none, keep-yes, keep-no, keep-
 use Rattle.laws.specs.Adding.{total-append}
 use Rattle.laws.specs.Numbers.{security-below}
 use Rattle.sound_positions.specs.Table.{nothing, nothing-at, nothing-length}
-use Rattle.sound_positions.specs.declared.balance.Totals.{Totals}
 
 -- ── the totals ──
 
@@ -44,29 +43,24 @@ ofSecurity s ps = keep (λ p. eqb (securityOf p) s) ps
 abbrev moreAt : List ℕ → ℕ → ℕ → List ℕ
 moreAt l s n = set l s (getD l s 0 + n)
 
-unfoldable pub withRecord : Totals → Position → Totals
-withRecord t p =
-    record { receive = moreAt (t .receive) (securityOf p) (longOf p); deliver = moreAt (t .deliver) (securityOf p) (shortOf p) }
+-- one record more on a side
+unfoldable pub withSide : (Position → ℕ) → List ℕ → Position → List ℕ
+withSide f l p = moreAt l (securityOf p) (f p)
 
--- the totals are those of the positions
-pub record Totalled (ps : List Position) (t : Totals) : Type 0 where
-  pub room-long : length (t .receive) ≡ securities
-  pub room-short : length (t .deliver) ≡ securities
-  pub long : (s : ℕ) → getD (t .receive) s 0 ≡ total longOf (ofSecurity s ps)
-  pub short : (s : ℕ) → getD (t .deliver) s 0 ≡ total shortOf (ofSecurity s ps)
+-- the totals of a side are those of the positions
+pub record Totalled (f : Position → ℕ) (ps : List Position) (t : List ℕ) : Type 0 where
+  pub room : length t ≡ securities
+  pub sum : (s : ℕ) → getD t s 0 ≡ total f (ofSecurity s ps)
 
 none-of : (f : Position → ℕ) (t u : Position → Bool) (l : List Position) → total f (keep t (keep u (take 0 l))) ≡ 0
 unfolding total
 none-of f t u l = rw (keep-none u, keep-none t)
 
-pub totalled-none : (d : Position → Bool) (l : List Position) (t : Totals) → t .receive ≡ nothing securities → t .deliver ≡ nothing securities
-    → Totalled (keep d (take 0 l)) t
-totalled-none d l t e f =
+pub totalled-none : (f : Position → ℕ) (d : Position → Bool) (l : List Position) (t : List ℕ) → t ≡ nothing securities → Totalled f (keep d (take 0 l)) t
+totalled-none f d l t e =
     record {
-      room-long = ap length e ∙ nothing-length securities;
-      room-short = ap length f ∙ nothing-length securities;
-      long = λ s. ap (λ (x : List ℕ). getD x s 0) e ∙ nothing-at securities s ∙ sym (none-of longOf (λ p. eqb (securityOf p) s) d l);
-      short = λ s. ap (λ (x : List ℕ). getD x s 0) f ∙ nothing-at securities s ∙ sym (none-of shortOf (λ p. eqb (securityOf p) s) d l);
+      room = ap length e ∙ nothing-length securities;
+      sum = λ s. ap (λ (x : List ℕ). getD x s 0) e ∙ nothing-at securities s ∙ sym (none-of f (λ p. eqb (securityOf p) s) d l);
     }
 
 one-more : (f : Position → ℕ) (l : List ℕ) (ps : List Position) (p : Position) → length l ≡ securities
@@ -90,31 +84,29 @@ one-more f l ps p w h s =
     getD-set-other l (securityOf p) s (getD l (securityOf p) 0 + f p) 0 (λ i. eqb-false (securityOf p) s y (sym i)) in
     omega (arith, b, c, e, h s))
 
-totalled-more : (ps : List Position) (t : Totals) (p : Position) → Totalled ps t → Totalled (ps ++ (p ∷ [])) (withRecord t p)
-unfolding withRecord
-totalled-more ps t p h =
+totalled-more : (f : Position → ℕ) (ps : List Position) (t : List ℕ) (p : Position) → Totalled f ps t → Totalled f (ps ++ (p ∷ [])) (withSide f t p)
+unfolding withSide
+totalled-more f ps t p h =
     record {
-      room-long = length-set (t .receive) (securityOf p) (getD (t .receive) (securityOf p) 0 + longOf p) ∙ h .room-long;
-      room-short = length-set (t .deliver) (securityOf p) (getD (t .deliver) (securityOf p) 0 + shortOf p) ∙ h .room-short;
-      long = one-more longOf (t .receive) ps p (h .room-long) (h .long);
-      short = one-more shortOf (t .deliver) ps p (h .room-short) (h .short);
+      room = length-set t (securityOf p) (getD t (securityOf p) 0 + f p) ∙ h .room;
+      sum = one-more f t ps p (h .room) (h .sum);
     }
 
 -- one more record of a table, counted if it passes the test d
-pub totalled-step : (d : Position → Bool) (l : List Position) (i : ℕ) (t u : Totals) → i < length l → Totalled (keep d (take i l)) t
-    → u ≡ cond (d (getD l i noPosition)) (withRecord t (getD l i noPosition)) t → Totalled (keep d (take (i + 1) l)) u
-totalled-step d l i t u w h e =
+pub totalled-step : (f : Position → ℕ) (d : Position → Bool) (l : List Position) (i : ℕ) (t u : List ℕ) → i < length l → Totalled f (keep d (take i l)) t
+    → u ≡ cond (d (getD l i noPosition)) (withSide f t (getD l i noPosition)) t → Totalled f (keep d (take (i + 1) l)) u
+totalled-step f d l i t u w h e =
     let p = getD l i noPosition in
-    let f : keep d (take (i + 1) l) ≡ keep d (take i l) ++ keep d (p ∷ []) =
+    let a : keep d (take (i + 1) l) ≡ keep d (take i l) ++ keep d (p ∷ []) =
     ap (λ (j : ℕ). keep d (take j l)) (add-one i) ∙ ap (keep d) (take-suc l i noPosition w) ∙ keep-append d (take i l) (p ∷ []) in
     by-test (d p)
     (λ y. let g : keep d (take (i + 1) l) ≡ keep d (take i l) ++ (p ∷ []) =
-    f ∙ ap (λ (r : List Position). keep d (take i l) ++ r) (keep-yes d p [] y ∙ ap (λ (r : List Position). p ∷ r) (keep-none d)) in
-    let v : u ≡ withRecord t p = e ∙ cond-yes (withRecord t p) t y in
-    rw (g, v) (totalled-more (keep d (take i l)) t p h))
+    a ∙ ap (λ (r : List Position). keep d (take i l) ++ r) (keep-yes d p [] y ∙ ap (λ (r : List Position). p ∷ r) (keep-none d)) in
+    let v : u ≡ withSide f t p = e ∙ cond-yes (withSide f t p) t y in
+    rw (g, v) (totalled-more f (keep d (take i l)) t p h))
     (λ y. let g : keep d (take (i + 1) l) ≡ keep d (take i l) =
-    f ∙ ap (λ (r : List Position). keep d (take i l) ++ r) (keep-no d p [] y ∙ keep-none d) ∙ append-nil (keep d (take i l)) in
-    let v : u ≡ t = e ∙ cond-no (withRecord t p) t y in
+    a ∙ ap (λ (r : List Position). keep d (take i l) ++ r) (keep-no d p [] y ∙ keep-none d) ∙ append-nil (keep d (take i l)) in
+    let v : u ≡ t = e ∙ cond-no (withSide f t p) t y in
     rw (g, v) h)
 
 -- ── no total passes 64 bits ──
@@ -123,9 +115,9 @@ totalled-step d l i t u w h e =
 abbrev pub mostTotal : ℕ
 mostTotal = mostRecords * mostShares
 
-pub record Room (t : Totals) (p : Position) : Type 0 where
-  pub long : getD (t .receive) (securityOf p) 0 ≤ mostTotal
-  pub short : getD (t .deliver) (securityOf p) 0 ≤ mostTotal
+pub record Room (receive deliver : List ℕ) (p : Position) : Type 0 where
+  pub long : getD receive (securityOf p) 0 ≤ mostTotal
+  pub short : getD deliver (securityOf p) 0 ≤ mostTotal
   pub size : natAbs (quantityOf p) ≤ mostShares
 
 size-fits : (p : Position) → sizesFit p ≡ true → natAbs (quantityOf p) ≤ mostShares
@@ -156,38 +148,38 @@ module _ (d : Position → Bool) (l : List Position) (n i : ℕ) (a : all sizesF
       let fits = keep-all t sizesFit (keep d (take i l)) (keep-all d sizesFit (take i l) (all-first sizesFit l i n (omega arith) a)) in
       omega (arith, total-within f (keep t (keep d (take i l))) g fits, keep-length t (keep d (take i l)), keep-length d (take i l), length-take-le i l (omega arith))
 
-  pub room-for : (t : Totals) → Totalled (keep d (take i l)) t → Room t (getD l i noPosition)
-  room-for t e =
+  pub room-for : (receive deliver : List ℕ) → Totalled longOf (keep d (take i l)) receive → Totalled shortOf (keep d (take i l)) deliver → Room receive deliver (getD l i noPosition)
+  room-for receive deliver e f =
       let p = getD l i noPosition in
       record {
-        long = omega (arith, e .long (securityOf p), within longOf (securityOf p) (λ q. omega (arith, sides (quantityOf q))));
-        short = omega (arith, e .short (securityOf p), within shortOf (securityOf p) (λ q. omega (arith, sides (quantityOf q))));
+        long = omega (arith, e .sum (securityOf p), within longOf (securityOf p) (λ q. omega (arith, sides (quantityOf q))));
+        short = omega (arith, f .sum (securityOf p), within shortOf (securityOf p) (λ q. omega (arith, sides (quantityOf q))));
         size = size-fits p (rw (getD-take n l i noPosition h) at (all-at sizesFit (take n l) i noPosition a (omega (arith, length-take-le n l w))));
       }
 
 -- ── the sides of a quantity, as the code has them ──
 
-module _ (t : Totals) (p : Position) where
-  pub with-short : isNegative (quantityOf p) ≡ true
-      → record { receive = t .receive; deliver = set (t .deliver) (securityOf p) (getD (t .deliver) (securityOf p) 0 + natAbs (quantityOf p)) } ≡ withRecord t p
-  unfolding withRecord
-  with-short e =
-      let a : longOf p ≡ 0 = omega (arith, neg-yes (quantityOf p) e, one-side (quantityOf p)) in
-      let b : natAbs (quantityOf p) ≡ shortOf p = omega (arith, a, sides (quantityOf p)) in
-      let c : getD (t .receive) (securityOf p) 0 ≡ getD (t .receive) (securityOf p) 0 + longOf p = omega (arith, a) in
-      λ i. record {
-        receive = (sym (set-getD (t .receive) (securityOf p) 0) ∙ ap (set (t .receive) (securityOf p)) c) i;
-        deliver = ap (λ (n : ℕ). set (t .deliver) (securityOf p) (getD (t .deliver) (securityOf p) 0 + n)) b i;
-      }
+-- a record that is not on a side, and one that is
+side-none : (f : Position → ℕ) (t : List ℕ) (p : Position) → f p ≡ 0 → t ≡ withSide f t p
+unfolding withSide
+side-none f t p e =
+    let c : getD t (securityOf p) 0 ≡ getD t (securityOf p) 0 + f p = omega (arith, e) in
+    sym (set-getD t (securityOf p) 0) ∙ ap (set t (securityOf p)) c
 
-  pub with-long : isNegative (quantityOf p) ≡ false
-      → record { receive = set (t .receive) (securityOf p) (getD (t .receive) (securityOf p) 0 + natAbs (quantityOf p)); deliver = t .deliver } ≡ withRecord t p
-  unfolding withRecord
-  with-long e =
+side-all : (f : Position → ℕ) (t : List ℕ) (p : Position) → natAbs (quantityOf p) ≡ f p
+    → set t (securityOf p) (getD t (securityOf p) 0 + natAbs (quantityOf p)) ≡ withSide f t p
+unfolding withSide
+side-all f t p e = ap (λ (n : ℕ). set t (securityOf p) (getD t (securityOf p) 0 + n)) e
+
+module _ (receive deliver : List ℕ) (p : Position) where
+  pub to-deliver : isNegative (quantityOf p) ≡ true
+      → (receive ≡ withSide longOf receive p) × (set deliver (securityOf p) (getD deliver (securityOf p) 0 + natAbs (quantityOf p)) ≡ withSide shortOf deliver p)
+  to-deliver e =
+      let a : longOf p ≡ 0 = omega (arith, neg-yes (quantityOf p) e, one-side (quantityOf p)) in
+      (side-none longOf receive p a, side-all shortOf deliver p (omega (arith, a, sides (quantityOf p))))
+
+  pub to-receive : isNegative (quantityOf p) ≡ false
+      → (set receive (securityOf p) (getD receive (securityOf p) 0 + natAbs (quantityOf p)) ≡ withSide longOf receive p) × (deliver ≡ withSide shortOf deliver p)
+  to-receive e =
       let a : shortOf p ≡ 0 = omega (arith, neg-no (quantityOf p) e, one-side (quantityOf p)) in
-      let b : natAbs (quantityOf p) ≡ longOf p = omega (arith, a, sides (quantityOf p)) in
-      let c : getD (t .deliver) (securityOf p) 0 ≡ getD (t .deliver) (securityOf p) 0 + shortOf p = omega (arith, a) in
-      λ i. record {
-        receive = ap (λ (n : ℕ). set (t .receive) (securityOf p) (getD (t .receive) (securityOf p) 0 + n)) b i;
-        deliver = (sym (set-getD (t .deliver) (securityOf p) 0) ∙ ap (set (t .deliver) (securityOf p)) c) i;
-      }
+      (side-all longOf receive p (omega (arith, a, sides (quantityOf p))), side-none shortOf deliver p a)

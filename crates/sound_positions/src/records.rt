@@ -1,24 +1,26 @@
 // "Records ascend strictly, unused room is zero."
-use rules::Book;
+use book::position_at;
+use book::records_at;
 use rules::Position;
 ghost use mathlib.Core.Path.{_≡_};
 ghost use Prim.Native.Nat.{_≤_};
-ghost use lib.ListN.{drop};
+ghost use lib.ListN.{length, drop};
 ghost use Rattle.rules.specs.Words.{all};
 ghost use Rattle.rules.specs.Bounds.{mostRecords};
 ghost use Rattle.rules.specs.Book.{openOf};
+ghost use Rattle.rules.specs.Layout.{bookLength, bookOf};
 ghost use Rattle.rules.specs.Sound.{ascends, isBlank, recordsFit};
 
 // Each record against the one before it. The first has none, so that the walk starts at the second.
-fn numbers_ascend(k: Book) -> bool
-    requires { ⌜ k .records ≤ mostRecords ⌝ }
-    ensures { λ r. ⌜ r ≡ ascends (openOf k) ⌝ }
+fn numbers_ascend(b: &[u8]) -> bool
+    requires { ⌜ (length (now b) ≡ bookLength) × (bookOf (now b) .records ≤ mostRecords) ⌝ }
+    ensures { λ r. ⌜ r ≡ ascends (openOf (bookOf (now (b .entry)))) ⌝ }
 {
-    let n = k.records as usize;
+    let n = records_at(b) as usize;
     let mut i: usize = 1;
     while i < n {
-        let p = k.positions[i - 1];
-        let q = k.positions[i];
+        let p = position_at(b, i - 1);
+        let q = position_at(b, i);
         if q.number <= p.number {
             return false;
         }
@@ -42,13 +44,13 @@ fn is_blank(p: Position) -> bool
 }
 
 // All the room behind the records, to the end of the table.
-fn unused_blank(k: Book) -> bool
-    requires { ⌜ k .records ≤ mostRecords ⌝ }
-    ensures { λ r. ⌜ r ≡ all isBlank (drop (k .records) (k .positions)) ⌝ }
+fn unused_blank(b: &[u8]) -> bool
+    requires { ⌜ (length (now b) ≡ bookLength) × (bookOf (now b) .records ≤ mostRecords) ⌝ }
+    ensures { λ r. ⌜ r ≡ all isBlank (drop (bookOf (now (b .entry)) .records) (bookOf (now (b .entry)) .positions)) ⌝ }
 {
-    let mut row = k.records as usize;
+    let mut row = records_at(b) as usize;
     while row < 1024 {
-        let p = k.positions[row];
+        let p = position_at(b, row);
         if !is_blank(p) {
             return false;
         }
@@ -57,14 +59,15 @@ fn unused_blank(k: Book) -> bool
     true
 }
 
-pub fn records_fit(k: Book) -> bool
-    ensures { λ r. ⌜ r ≡ recordsFit k ⌝ }
+pub fn records_fit(b: &[u8]) -> bool
+    requires { ⌜ length (now b) ≡ bookLength ⌝ }
+    ensures { λ r. ⌜ r ≡ recordsFit (bookOf (now (b .entry))) ⌝ }
 {
-    if k.records > 1024 {
+    if records_at(b) > 1024 {
         return false;
     }
-    if !numbers_ascend(k) {
+    if !numbers_ascend(b) {
         return false;
     }
-    unused_blank(k)
+    unused_blank(b)
 }

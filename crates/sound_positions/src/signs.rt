@@ -2,14 +2,18 @@
 use crate::due::is_due;
 use crate::number::account_of;
 use crate::number::security_of;
-use rules::Book;
+use book::day_at;
+use book::position_at;
+use book::records_at;
 use rules::Position;
 ghost use mathlib.Core.Path.{_≡_};
 ghost use mathlib.Core.Bool.{not, cond, _||_};
 ghost use Prim.Native.Nat.{_≤_, _<_};
+ghost use lib.ListN.{length};
 ghost use Rattle.rules.specs.Words.{keep};
 ghost use Rattle.rules.specs.Bounds.{mostRecords};
 ghost use Rattle.rules.specs.Book.{openOf};
+ghost use Rattle.rules.specs.Layout.{bookLength, bookOf};
 ghost use Rattle.rules.specs.Sound.{isDue, oneSign};
 ghost use Rattle.sound_positions.specs.OneSign.{placeOf, places, signOf, fitsSeen, withSign};
 
@@ -58,19 +62,20 @@ fn note_sign(seen: &mut [u8; 2048], day: u16, p: Position)
 }
 
 // One pass: comparing each due record with each other would take half a million turns for a full table.
-pub fn one_sign(k: Book) -> bool
-    requires { ⌜ k .records ≤ mostRecords ⌝ }
-    ensures { λ r. ⌜ r ≡ oneSign (keep (isDue (k .day)) (openOf k)) ⌝ }
+pub fn one_sign(b: &[u8]) -> bool
+    requires { ⌜ (length (now b) ≡ bookLength) × (bookOf (now b) .records ≤ mostRecords) ⌝ }
+    ensures { λ r. ⌜ r ≡ oneSign (keep (isDue (bookOf (now (b .entry)) .day)) (openOf (bookOf (now (b .entry))))) ⌝ }
 {
-    let n = k.records as usize;
+    let day = day_at(b);
+    let n = records_at(b) as usize;
     let mut seen: [u8; 2048] = [0; 2048];
     let mut i: usize = 0;
     while i < n {
-        let p = k.positions[i];
-        if !sign_fits(&seen, k.day, p) {
+        let p = position_at(b, i);
+        if !sign_fits(&seen, day, p) {
             return false;
         }
-        note_sign(&mut seen, k.day, p);
+        note_sign(&mut seen, day, p);
         i += 1;
     }
     true

@@ -1,5 +1,4 @@
 -- What the test for soundness needs beside the laws: what its loops have found out, and that it is what the definitions say.
-pub mod Parts
 pub mod Distinct
 pub mod Placed
 pub mod Totals

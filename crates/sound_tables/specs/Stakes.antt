@@ -33,8 +33,12 @@ pub record MoneyAsks (k : Book) : Type 0 where
 
 -- ── the place of a record's money ──
 
-abbrev pub placeOf : Book → ℕ → Position → ℕ
-placeOf k j p = accountOf p * 4 + currencyOf k (securityOf p)
+abbrev pub placeOf : Book → Position → ℕ
+placeOf k p = accountOf p * 4 + currencyOf k (securityOf p)
+
+-- the same whatever the record's place in the table
+abbrev pub placeAt : Book → ℕ → Position → ℕ
+placeAt k j p = placeOf k p
 
 abbrev pub sizeOf : Position → ℕ
 sizeOf p = natAbs (moneyOf p)
@@ -63,17 +67,13 @@ module _ (k : Book) (long : length (k .currency) ≡ 32) (asks : MoneyAsks k) wh
   pub currency-below : (i : ℕ) (d : Position) → i < length (openOf k) → currencyOf k (securityOf (getD (openOf k) i d)) < 4
   currency-below i d h = omega (arith, leb-true (currencyOf k (securityOf (getD (openOf k) i d))) 3 (all-at (hasCurrency k) (openOf k) i d have-currencies h))
 
--- the same by the codes
-abbrev pub placeBy : List ℕ → Position → ℕ
-placeBy codes p = accountOf p * 4 + getD codes (securityOf p) 0
-
 -- one record's money is added at its place
-abbrev pub withMoney : List ℕ → List ℕ → Position → List ℕ
-withMoney sums codes p = set sums (placeBy codes p) (getD sums (placeBy codes p) 0 + sizeOf p)
+abbrev pub withMoney : Book → List ℕ → Position → List ℕ
+withMoney k sums p = set sums (placeOf k p) (getD sums (placeOf k p) 0 + sizeOf p)
 
-pub record AddAsks (sums codes : List ℕ) (p : Position) : Type 0 where
-  pub currency : getD codes (securityOf p) 0 < 4
-  pub fits : getD sums (placeBy codes p) 0 + sizeOf p < 2 ^ 64
+pub record AddAsks (k : Book) (sums : List ℕ) (p : Position) : Type 0 where
+  pub currency : currencyOf k (securityOf p) < 4
+  pub fits : getD sums (placeOf k p) 0 + sizeOf p < 2 ^ 64
 
 -- ── open money ──
 
@@ -99,17 +99,17 @@ abbrev isOf : Book → ℕ → ℕ → Position → Bool
 isOf k a c p = eqb (accountOf p) a && eqb (currencyOf k (securityOf p)) c
 
 amounts-total : (k : Book) (a c j : ℕ) (ps : List Position) → c < 4 → all (hasCurrency k) ps ≡ true
-    → amountsAt (placeOf k) sizeOf (a * 4 + c) j ps ≡ total (λ p. cond (isOf k a c p) (sizeOf p) 0) ps
+    → amountsAt (placeAt k) sizeOf (a * 4 + c) j ps ≡ total (λ p. cond (isOf k a c p) (sizeOf p) 0) ps
 unfolding amountsAt total all
 amounts-total k a c j [] h e = refl
 amounts-total k a c j (p ∷ ps) h e =
     let q = both-hold (hasCurrency k p) (all (hasCurrency k) ps) e in
-    let here : eqb (placeOf k j p) (a * 4 + c) ≡ isOf k a c p
+    let here : eqb (placeAt k j p) (a * 4 + c) ≡ isOf k a c p
     = same-place (accountOf p) (currencyOf k (securityOf p)) a c (omega (arith, leb-true (currencyOf k (securityOf p)) 3 (q .0))) h in
     rw (here, amounts-total k a c (suc j) ps h (q .1))
 
 pub open-money : (k : Book) (a c : ℕ) → length (k .currency) ≡ 32 → MoneyAsks k → c < 4
-    → amountsAt (placeOf k) sizeOf (a * 4 + c) 0 (openOf k) ≡ openMoney k (recordsOf a (openOf k)) c
+    → amountsAt (placeAt k) sizeOf (a * 4 + c) 0 (openOf k) ≡ openMoney k (recordsOf a (openOf k)) c
 unfolding openMoney recordsOf
 open-money k a c long asks h =
     amounts-total k a c 0 (openOf k) h (have-currencies k long asks)

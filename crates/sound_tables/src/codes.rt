@@ -3,7 +3,7 @@ ghost use mathlib.Core.Path.{_≡_};
 ghost use Rattle.rules.specs.Words.{all};
 ghost use Rattle.rules.specs.Sound.{isCode};
 
-fn is_code(code: u8) -> bool
+pub fn is_code(code: u8) -> bool
     ensures { λ r. ⌜ r ≡ isCode code ⌝ }
 {
     code <= 3 || code == 255

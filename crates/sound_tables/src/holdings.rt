@@ -1,20 +1,22 @@
 // "Holdings 0 to 10^12, each security's total too, kept account by account, 32 entries each."
-use rules::Book;
+use book::holding_at;
 ghost use mathlib.Core.Path.{_≡_};
 ghost use mathlib.Core.Bool.{true};
 ghost use Prim.Native.Nat.{_+_, _^_, _<_};
 ghost use lib.Dec.{leb};
-ghost use lib.ListN.{getD, set};
+ghost use lib.ListN.{length, getD, set};
 ghost use Rattle.rules.specs.Words.{all};
 ghost use Rattle.rules.specs.Bounds.{mostHeld};
+ghost use Rattle.rules.specs.Layout.{bookLength, bookOf};
 ghost use Rattle.rules.specs.Sound.{totalsHeld, holdingsFit};
 
-fn each_within(holdings: [u64; 2048]) -> bool
-    ensures { λ r. ⌜ r ≡ all (λ h. leb h mostHeld) holdings ⌝ }
+fn each_within(b: &[u8]) -> bool
+    requires { ⌜ length (now b) ≡ bookLength ⌝ }
+    ensures { λ r. ⌜ r ≡ all (λ h. leb h mostHeld) (bookOf (now (b .entry)) .holdings) ⌝ }
 {
     let mut i: usize = 0;
     while i < 2048 {
-        if holdings[i] > 1_000_000_000_000 {
+        if holding_at(b, i) > 1_000_000_000_000 {
             return false;
         }
         i += 1;
@@ -32,15 +34,16 @@ fn add_holding(totals: &mut [u64; 32], s: usize, holding: u64)
 }
 
 // What all accounts hold of each security, in one pass over the holdings.
-pub fn totals_held(holdings: [u64; 2048]) -> [u64; 32]
-    requires { ⌜ all (λ h. leb h mostHeld) holdings ≡ true ⌝ }
-    ensures { λ r. ⌜ r ≡ totalsHeld holdings ⌝ }
+pub fn totals_at(b: &[u8]) -> [u64; 32]
+    requires { ⌜ (length (now b) ≡ bookLength) × (all (λ h. leb h mostHeld) (bookOf (now b) .holdings) ≡ true) ⌝ }
+    ensures { λ r. ⌜ r ≡ totalsHeld (bookOf (now (b .entry)) .holdings) ⌝ }
 {
     let mut totals: [u64; 32] = [0; 32];
     let mut i: usize = 0;
     while i < 2048 {
+        let holding = holding_at(b, i);
         let s = i % 32;
-        add_holding(&mut totals, s, holdings[i]);
+        add_holding(&mut totals, s, holding);
         i += 1;
     }
     totals
@@ -59,12 +62,12 @@ fn totals_within(totals: [u64; 32]) -> bool
     true
 }
 
-pub fn holdings_fit(k: Book) -> bool
-    ensures { λ r. ⌜ r ≡ holdingsFit k ⌝ }
+pub fn holdings_fit(b: &[u8]) -> bool
+    requires { ⌜ length (now b) ≡ bookLength ⌝ }
+    ensures { λ r. ⌜ r ≡ holdingsFit (bookOf (now (b .entry))) ⌝ }
 {
-    let holdings = k.holdings;
-    if !each_within(holdings) {
+    if !each_within(b) {
         return false;
     }
-    totals_within(totals_held(holdings))
+    totals_within(totals_at(b))
 }

@@ -1,11 +1,14 @@
 // "Trades: .. numbers distinct .." One pass, with a flag for each of the 65,536 numbers.
-use rules::Book;
+use book::entries_at;
+use book::trade_at;
 ghost use mathlib.Core.Path.{_≡_};
 ghost use mathlib.Core.Bool.{true, false, not};
 ghost use mathlib.Core.List.{map};
 ghost use Prim.Native.Nat.{_<_, _≤_};
-ghost use lib.ListN.{getD, set};
+ghost use lib.ListN.{length, getD, set};
+ghost use Rattle.rules.specs.Bounds.{mostTrades};
 ghost use Rattle.rules.specs.Book.{listOf};
+ghost use Rattle.rules.specs.Layout.{bookLength, bookOf};
 ghost use Rattle.rules.specs.Sound.{distinct};
 
 // Raises the flag of a number, and says whether it was down. The caller learns that the number has a flag.
@@ -19,15 +22,15 @@ fn first_use(used: &mut [bool; 65536], number: u16) -> bool
     new
 }
 
-pub fn numbers_distinct(k: Book) -> bool
-    requires { ⌜ k .entries ≤ 256 ⌝ }
-    ensures { λ r. ⌜ r ≡ distinct (map (λ t. t .number) (listOf k)) ⌝ }
+pub fn numbers_distinct(b: &[u8]) -> bool
+    requires { ⌜ (length (now b) ≡ bookLength) × (bookOf (now b) .entries ≤ mostTrades) ⌝ }
+    ensures { λ r. ⌜ r ≡ distinct (map (λ t. t .number) (listOf (bookOf (now (b .entry))))) ⌝ }
 {
     let mut used = [false; 65536];
-    let n = k.entries as usize;
+    let n = entries_at(b) as usize;
     let mut i: usize = 0;
     while i < n {
-        let t = k.trades[i];
+        let t = trade_at(b, i);
         if !first_use(&mut used, t.number) {
             return false;
         }

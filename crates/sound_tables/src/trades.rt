@@ -5,15 +5,19 @@ use crate::faults::bad_quantity;
 use crate::faults::bad_security;
 use crate::faults::same_account;
 use crate::numbers::numbers_distinct;
-use rules::Book;
+use book::codes_of;
+use book::entries_at;
+use book::trade_at;
 use rules::Trade;
 ghost use mathlib.Core.Path.{_≡_};
 ghost use mathlib.Core.Bool.{_&&_};
 ghost use Prim.Native.Nat.{_≤_};
 ghost use lib.Dec.{eqb};
-ghost use lib.ListN.{drop};
+ghost use lib.ListN.{length, drop};
 ghost use Rattle.rules.specs.Words.{all};
+ghost use Rattle.rules.specs.Bounds.{mostTrades};
 ghost use Rattle.rules.specs.Book.{listOf};
+ghost use Rattle.rules.specs.Layout.{bookLength, bookOf};
 ghost use Rattle.rules.specs.Sound.{validTrade, zeroFields, tradesFit};
 ghost use Rattle.rules.specs.declared.Book.{Book};
 ghost use Rattle.laws.specs.Listed.{listable};
@@ -78,15 +82,15 @@ fn blank_trade(t: Trade) -> bool
     zero_fields(t)
 }
 
-fn all_listable(k: Book) -> bool
-    requires { ⌜ k .entries ≤ 256 ⌝ }
-    ensures { λ r. ⌜ r ≡ all (listable k) (listOf k) ⌝ }
+fn all_listable(b: &[u8]) -> bool
+    requires { ⌜ (length (now b) ≡ bookLength) × (bookOf (now b) .entries ≤ mostTrades) ⌝ }
+    ensures { λ r. ⌜ r ≡ all (listable (bookOf (now (b .entry)))) (listOf (bookOf (now (b .entry)))) ⌝ }
 {
-    let codes = k.currency;
-    let n = k.entries as usize;
+    let codes = codes_of(b);
+    let n = entries_at(b) as usize;
     let mut i: usize = 0;
     while i < n {
-        let t = k.trades[i];
+        let t = trade_at(b, i);
         if !is_listable(codes, t) {
             return false;
         }
@@ -96,34 +100,33 @@ fn all_listable(k: Book) -> bool
 }
 
 // "Unused room is zero."
-fn rest_blank(k: Book) -> bool
-    requires { ⌜ k .entries ≤ 256 ⌝ }
-    ensures { λ r. ⌜ r ≡ all (λ t. eqb (t .number) 0 && zeroFields t) (drop (k .entries) (k .trades)) ⌝ }
+fn rest_blank(b: &[u8]) -> bool
+    requires { ⌜ (length (now b) ≡ bookLength) × (bookOf (now b) .entries ≤ mostTrades) ⌝ }
+    ensures { λ r. ⌜ r ≡ all (λ t. eqb (t .number) 0 && zeroFields t) (drop (bookOf (now (b .entry)) .entries) (bookOf (now (b .entry)) .trades)) ⌝ }
 {
-    let n = k.entries as usize;
-    let room = 256 - n;
-    let mut i: usize = 0;
-    while i < room {
-        let t = k.trades[n + i];
+    let mut row = entries_at(b) as usize;
+    while row < 256 {
+        let t = trade_at(b, row);
         if !blank_trade(t) {
             return false;
         }
-        i += 1;
+        row += 1;
     }
     true
 }
 
-pub fn trades_fit(k: Book) -> bool
-    ensures { λ r. ⌜ r ≡ tradesFit k ⌝ }
+pub fn trades_fit(b: &[u8]) -> bool
+    requires { ⌜ length (now b) ≡ bookLength ⌝ }
+    ensures { λ r. ⌜ r ≡ tradesFit (bookOf (now (b .entry))) ⌝ }
 {
-    if k.entries > 256 {
+    if entries_at(b) > 256 {
         return false;
     }
-    if !numbers_distinct(k) {
+    if !numbers_distinct(b) {
         return false;
     }
-    if !all_listable(k) {
+    if !all_listable(b) {
         return false;
     }
-    rest_blank(k)
+    rest_blank(b)
 }

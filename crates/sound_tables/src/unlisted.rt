@@ -1,35 +1,38 @@
 // "An unlisted security has no records and no holdings."
-use rules::Book;
+use book::code_at;
+use book::holding_at;
+use book::position_at;
+use book::records_at;
 use rules::Position;
 use sound_positions::security_of;
 ghost use mathlib.Core.Path.{_≡_};
 ghost use mathlib.Core.Bool.{not, _||_};
 ghost use Prim.Native.Nat.{_≤_};
 ghost use lib.Dec.{eqb};
+ghost use lib.ListN.{length};
 ghost use Rattle.rules.specs.Words.{all};
-ghost use Rattle.rules.specs.Bounds.{accounts, securities, noCurrency};
+ghost use Rattle.rules.specs.Bounds.{accounts, securities, noCurrency, mostRecords};
 ghost use Rattle.rules.specs.Book.{securityOf, openOf, unlisted};
+ghost use Rattle.rules.specs.Layout.{bookLength, bookOf};
 ghost use Rattle.rules.specs.Sound.{byAccount, holdsListed, unlistedEmpty};
-ghost use Rattle.rules.specs.declared.Book.{Book};
 
-// In any book with these codes.
-fn is_listed(codes: [u8; 32], p: Position) -> bool
-    ensures { λ r. ⌜ ((k : Book) → k .currency ≡ codes → r ≡ not (unlisted k (securityOf p))) ⌝ }
+fn is_listed(b: &[u8], p: Position) -> bool
+    requires { ⌜ length (now b) ≡ bookLength ⌝ }
+    ensures { λ r. ⌜ r ≡ not (unlisted (bookOf (now (b .entry))) (securityOf p)) ⌝ }
 {
     let s = security_of(p);
-    codes[s] != 255
+    code_at(b, s) != 255
 }
 
-fn records_listed(k: Book) -> bool
-    requires { ⌜ k .records ≤ 1024 ⌝ }
-    ensures { λ r. ⌜ r ≡ all (λ p. not (unlisted k (securityOf p))) (openOf k) ⌝ }
+fn records_listed(b: &[u8]) -> bool
+    requires { ⌜ (length (now b) ≡ bookLength) × (bookOf (now b) .records ≤ mostRecords) ⌝ }
+    ensures { λ r. ⌜ r ≡ all (λ p. not (unlisted (bookOf (now (b .entry))) (securityOf p))) (openOf (bookOf (now (b .entry)))) ⌝ }
 {
-    let codes = k.currency;
-    let n = k.records as usize;
+    let n = records_at(b) as usize;
     let mut i: usize = 0;
     while i < n {
-        let p = k.positions[i];
-        if !is_listed(codes, p) {
+        let p = position_at(b, i);
+        if !is_listed(b, p) {
             return false;
         }
         i += 1;
@@ -43,13 +46,15 @@ fn holding_listed(code: u8, holding: u64) -> bool
     code != 255 || holding == 0
 }
 
-fn holdings_listed(codes: [u8; 32], holdings: [u64; 2048]) -> bool
-    ensures { λ r. ⌜ r ≡ all (holdsListed codes) (byAccount securities accounts holdings) ⌝ }
+fn holdings_listed(b: &[u8]) -> bool
+    requires { ⌜ length (now b) ≡ bookLength ⌝ }
+    ensures { λ r. ⌜ r ≡ all (holdsListed (bookOf (now (b .entry)) .currency)) (byAccount securities accounts (bookOf (now (b .entry)) .holdings)) ⌝ }
 {
     let mut i: usize = 0;
     while i < 2048 {
-        let s = i % 32;
-        if !holding_listed(codes[s], holdings[i]) {
+        let code = code_at(b, i % 32);
+        let holding = holding_at(b, i);
+        if !holding_listed(code, holding) {
             return false;
         }
         i += 1;
@@ -57,14 +62,12 @@ fn holdings_listed(codes: [u8; 32], holdings: [u64; 2048]) -> bool
     true
 }
 
-pub fn unlisted_empty(k: Book) -> bool
-    requires { ⌜ k .records ≤ 1024 ⌝ }
-    ensures { λ r. ⌜ r ≡ unlistedEmpty k ⌝ }
+pub fn unlisted_empty(b: &[u8]) -> bool
+    requires { ⌜ (length (now b) ≡ bookLength) × (bookOf (now b) .records ≤ mostRecords) ⌝ }
+    ensures { λ r. ⌜ r ≡ unlistedEmpty (bookOf (now (b .entry))) ⌝ }
 {
-    if !records_listed(k) {
+    if !records_listed(b) {
         return false;
     }
-    let codes = k.currency;
-    let holdings = k.holdings;
-    holdings_listed(codes, holdings)
+    holdings_listed(b)
 }

@@ -1,53 +1,62 @@
-// The test for soundness (document 01, "A sound book"): all its sentences, in their order. A later test counts on
-// what the earlier ones have shown.
-use rules::Book;
+// The test for soundness (document 01, "A sound book"): all its sentences, in their order, read off the lent bytes of a
+// book; no table is copied. A later test counts on what the earlier ones have shown.
+use book::BOOK_BYTES;
+use book::codes_of;
 ghost use mathlib.Core.Path.{_≡_};
-ghost use Rattle.rules.specs.Sound.{sound};
+ghost use lib.ListN.{length};
+ghost use Rattle.rules.specs.Layout.{bookLength, bookOf};
+ghost use Rattle.rules.specs.Sound.{sound, notSound};
 ghost use Rattle.soundness.specs.Clauses.{positionsFit};
 
 // The sentences about the position table alone.
-fn positions_fit(k: Book) -> bool
-    ensures { λ r. ⌜ r ≡ positionsFit k ⌝ }
+fn positions_fit(b: &[u8]) -> bool
+    requires { ⌜ length (now b) ≡ bookLength ⌝ }
+    ensures { λ r. ⌜ r ≡ positionsFit (bookOf (now (b .entry))) ⌝ }
 {
-    if !sound_positions::records_fit(k) {
+    if !sound_positions::records_fit(b) {
         return false;
     }
-    if !sound_positions::sizes_fit(k) {
+    if !sound_positions::each_fits(b) {
         return false;
     }
-    if !sound_positions::due_fits(k) {
+    if !sound_positions::one_sign(b) {
         return false;
     }
-    if !sound_positions::due_nonzero(k) {
-        return false;
-    }
-    if !sound_positions::one_sign(k) {
-        return false;
-    }
-    sound_positions::due_balanced(k)
+    sound_positions::due_balanced(b)
 }
 
-pub fn is_sound(k: Book) -> bool
-    ensures { λ r. ⌜ r ≡ sound k ⌝ }
+pub fn is_sound(b: &[u8]) -> bool
+    requires { ⌜ length (now b) ≡ bookLength ⌝ }
+    ensures { λ r. ⌜ r ≡ sound (bookOf (now (b .entry))) ⌝ }
 {
-    let codes = k.currency;
-    if !sound_tables::day_fits(k) {
+    if !sound_tables::day_fits(b) {
         return false;
     }
+    let codes = codes_of(b);
     if !sound_tables::codes_fit(codes) {
         return false;
     }
-    if !positions_fit(k) {
+    if !positions_fit(b) {
         return false;
     }
-    if !sound_tables::holdings_fit(k) {
+    if !sound_tables::holdings_fit(b) {
         return false;
     }
-    if !sound_tables::unlisted_empty(k) {
+    if !sound_tables::unlisted_empty(b) {
         return false;
     }
-    if !sound_tables::money_fits(k) {
+    if !sound_tables::money_fits(b) {
         return false;
     }
-    sound_tables::trades_fit(k)
+    sound_tables::trades_fit(b)
+}
+
+// 1: the book is not sound; a book of wrong length is none.
+pub fn not_sound(b: &[u8]) -> bool
+    ensures { λ r. ⌜ r ≡ notSound (now (b .entry)) ⌝ }
+{
+    if b.len() != BOOK_BYTES {
+        return true;
+    }
+    !is_sound(b)
 }

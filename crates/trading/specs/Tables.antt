@@ -17,6 +17,8 @@ use Rattle.rules.specs.Sound.{zeroFields, distinct, tradesFit}
 use Rattle.rules.specs.Trades.{entered, replaced}
 use Rattle.rules.specs.declared.Trade.{Trade}
 use Rattle.rules.specs.declared.Book.{Book}
+use Rattle.rules.specs.Calls.{enter, after}
+use Rattle.book.specs.Changing.{withTable}
 use Rattle.laws.specs.Cases.{both-hold}
 use Rattle.laws.specs.Listed.{listable}
 
@@ -100,7 +102,7 @@ unfolding withList
 list-is k ts n rows e f = rw (f, e)
 
 module _ (k : Book) (long : length (k .trades) ≡ mostTrades) (fit : tradesFit k ≡ true) where
-  pub entered-is : (t : Trade) → k .entries < mostTrades
+  entered-is : (t : Trade) → k .entries < mostTrades
       → _≡_ {A = Book} (record {
         day = k .day;
         currency = k .currency;
@@ -117,7 +119,7 @@ module _ (k : Book) (long : length (k .trades) ≡ mostTrades) (fit : tradesFit 
       (omega (arith, length-append (take (k .entries) (k .trades)) (t ∷ []), length-take-le (k .entries) (k .trades) (omega arith)))
       (set-behind noTrade t (k .trades) (k .entries) (mostTrades - (k .entries + 1)) (omega arith) (rest-blank k fit))
 
-  pub replaced-is : (n : ℕ) (t : Trade) (i : ℕ) (rows : List Trade) → i ≡ k .entries
+  replaced-is : (n : ℕ) (t : Trade) (i : ℕ) (rows : List Trade) → i ≡ k .entries
       → rows ≡ map (λ u. cond (eqb (u .number) n) t u) (take i (k .trades)) ++ drop i (k .trades)
       → _≡_ {A = Book} (record {
         day = k .day;
@@ -137,3 +139,18 @@ module _ (k : Book) (long : length (k .trades) ≡ mostTrades) (fit : tradesFit 
       list-is k (map g l) (k .entries) rows
       (omega (arith, length-map l g, length-take-le (k .entries) (k .trades) (omega (arith, few k fit))))
       (rw (e) at f ∙ ap (λ (r : List Trade). map g l ++ r) (rest-blank k fit ∙ ap (λ (j : ℕ). replicate j noTrade) w))
+
+-- ── as the code has it: the count and the rows that were read, and what was written ──
+
+module _ (k : Book) (long : length (k .trades) ≡ mostTrades) (fit : tradesFit k ≡ true) (n : ℕ) (is : n ≡ k .entries) (rows : List Trade) (are : rows ≡ k .trades) where
+  pub entered-table : (t : Trade) → k .entries < mostTrades → withTable k (n + 1) (set rows n t) ≡ after k (enter t)
+  unfolding withTable after
+  entered-table t h = rw (is, are) (entered-is k long fit t h)
+
+  pub replaced-table : (m : ℕ) (t : Trade) (next : List Trade) → next ≡ map (λ u. cond (eqb (u .number) m) t u) (take n rows) ++ drop n rows
+      → withTable k n next ≡ withList k (replaced (listOf k) m t)
+  unfolding withTable
+  replaced-table m t next e =
+      let f : next ≡ map (λ u. cond (eqb (u .number) m) t u) (take n (k .trades)) ++ drop n (k .trades)
+      = e ∙ ap (λ (l : List Trade). map (λ u. cond (eqb (u .number) m) t u) (take n l) ++ drop n l) are in
+      rw is (replaced-is k long fit m t n next is f)

@@ -1,22 +1,26 @@
 // Today's list (document 01, "From trades to positions"): which numbers are used, and which of them stand.
-use rules::Book;
+use book::entries_at;
+use book::trade_at;
 use rules::Trade;
 ghost use mathlib.Core.Path.{_≡_};
 ghost use mathlib.Core.Bool.{_&&_, not};
 ghost use Prim.Native.Nat.{_≤_};
 ghost use lib.Dec.{eqb};
+ghost use lib.ListN.{length};
+ghost use Rattle.rules.specs.Bounds.{mostTrades};
 ghost use Rattle.rules.specs.Book.{listOf};
+ghost use Rattle.rules.specs.Layout.{bookLength, bookOf};
 ghost use Rattle.rules.specs.Trades.{isExcluded, used, stands};
 
 // An excluded trade keeps its number, so that one counts too: a number is used once a day.
-pub fn is_used(k: Book, number: u16) -> bool
-    requires { ⌜ k .entries ≤ 256 ⌝ }
-    ensures { λ r. ⌜ r ≡ used number (listOf k) ⌝ }
+pub fn is_used(b: &[u8], number: u16) -> bool
+    requires { ⌜ (length (now b) ≡ bookLength) × (bookOf (now b) .entries ≤ mostTrades) ⌝ }
+    ensures { λ r. ⌜ r ≡ used number (listOf (bookOf (now (b .entry)))) ⌝ }
 {
-    let n = k.entries as usize;
+    let n = entries_at(b) as usize;
     let mut i: usize = 0;
     while i < n {
-        let t = k.trades[i];
+        let t = trade_at(b, i);
         if t.number == number {
             return true;
         }
@@ -36,14 +40,14 @@ fn stands_as(t: Trade, number: u16) -> bool
 }
 
 // In the list and not excluded.
-pub fn is_standing(k: Book, number: u16) -> bool
-    requires { ⌜ k .entries ≤ 256 ⌝ }
-    ensures { λ r. ⌜ r ≡ stands number (listOf k) ⌝ }
+pub fn is_standing(b: &[u8], number: u16) -> bool
+    requires { ⌜ (length (now b) ≡ bookLength) × (bookOf (now b) .entries ≤ mostTrades) ⌝ }
+    ensures { λ r. ⌜ r ≡ stands number (listOf (bookOf (now (b .entry)))) ⌝ }
 {
-    let n = k.entries as usize;
+    let n = entries_at(b) as usize;
     let mut i: usize = 0;
     while i < n {
-        let t = k.trades[i];
+        let t = trade_at(b, i);
         if stands_as(t, number) {
             return true;
         }

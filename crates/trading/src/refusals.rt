@@ -1,8 +1,9 @@
-// What entry, amendment and exclusion answer on a sound book (document 01, "Refusal numbers"): 0, or the number of the
-// first test that holds. Checks go by ascending number; 1 is checked before all of these.
+// What entry, amendment and exclusion answer on a sound book in bytes (document 01, "Refusal numbers"): 0, or the number
+// of the first test that holds. Checks go by ascending number; 1 is checked before all of these.
 use crate::list::is_standing;
 use crate::list::is_used;
-use rules::Book;
+use book::codes_of;
+use book::entries_at;
 use rules::Trade;
 use sound_tables::bad_accounts;
 use sound_tables::bad_price;
@@ -12,14 +13,18 @@ use sound_tables::same_account;
 ghost use mathlib.Core.Path.{_≡_};
 ghost use mathlib.Core.List.{[]};
 ghost use Prim.Native.Nat.{_≤_};
+ghost use lib.ListN.{length};
 ghost use Rattle.rules.specs.Words.{first};
+ghost use Rattle.rules.specs.Bounds.{mostTrades};
+ghost use Rattle.rules.specs.Layout.{bookLength, bookOf};
 ghost use Rattle.rules.specs.Calls.{enter, amend, exclude, fieldTests, answerSound};
 
 // 2 to 6, which entry and amendment ask alike of the trade's fields.
-fn field_refusal(k: Book, t: Trade) -> u8
-    ensures { λ r. ⌜ r ≡ first (fieldTests k t []) ⌝ }
+fn field_refusal(b: &[u8], t: Trade) -> u8
+    requires { ⌜ length (now b) ≡ bookLength ⌝ }
+    ensures { λ r. ⌜ r ≡ first (fieldTests (bookOf (now (b .entry))) t []) ⌝ }
 {
-    let codes = k.currency;
+    let codes = codes_of(b);
     if bad_accounts(t) {
         return 2;
     }
@@ -39,46 +44,46 @@ fn field_refusal(k: Book, t: Trade) -> u8
 }
 
 // 7: the number is 0 or used today. 9: the list is full.
-pub fn enter_refusal(k: Book, t: Trade) -> u8
-    requires { ⌜ k .entries ≤ 256 ⌝ }
-    ensures { λ r. ⌜ r ≡ answerSound k (enter t) ⌝ }
+pub fn enter_refusal(b: &[u8], t: Trade) -> u8
+    requires { ⌜ (length (now b) ≡ bookLength) × (bookOf (now b) .entries ≤ mostTrades) ⌝ }
+    ensures { λ r. ⌜ r ≡ answerSound (bookOf (now (b .entry))) (enter t) ⌝ }
 {
-    let fault = field_refusal(k, t);
+    let fault = field_refusal(b, t);
     if fault != 0 {
         return fault;
     }
     if t.number == 0 {
         return 7;
     }
-    if is_used(k, t.number) {
+    if is_used(b, t.number) {
         return 7;
     }
-    if k.entries >= 256 {
+    if entries_at(b) >= 256 {
         return 9;
     }
     0
 }
 
 // 8: no trade of that number is in the list, or it is excluded.
-pub fn amend_refusal(k: Book, t: Trade) -> u8
-    requires { ⌜ k .entries ≤ 256 ⌝ }
-    ensures { λ r. ⌜ r ≡ answerSound k (amend t) ⌝ }
+pub fn amend_refusal(b: &[u8], t: Trade) -> u8
+    requires { ⌜ (length (now b) ≡ bookLength) × (bookOf (now b) .entries ≤ mostTrades) ⌝ }
+    ensures { λ r. ⌜ r ≡ answerSound (bookOf (now (b .entry))) (amend t) ⌝ }
 {
-    let fault = field_refusal(k, t);
+    let fault = field_refusal(b, t);
     if fault != 0 {
         return fault;
     }
-    if !is_standing(k, t.number) {
+    if !is_standing(b, t.number) {
         return 8;
     }
     0
 }
 
-pub fn exclude_refusal(k: Book, number: u16) -> u8
-    requires { ⌜ k .entries ≤ 256 ⌝ }
-    ensures { λ r. ⌜ r ≡ answerSound k (exclude number) ⌝ }
+pub fn exclude_refusal(b: &[u8], number: u16) -> u8
+    requires { ⌜ (length (now b) ≡ bookLength) × (bookOf (now b) .entries ≤ mostTrades) ⌝ }
+    ensures { λ r. ⌜ r ≡ answerSound (bookOf (now (b .entry))) (exclude number) ⌝ }
 {
-    if !is_standing(k, number) {
+    if !is_standing(b, number) {
         return 8;
     }
     0

@@ -1,51 +1,49 @@
 -- `soundness::positions_fit` meets its contract: each return by the tests that were made so far. Assumes nothing.
 use borrow.Author.Needs.{needs}
 use borrow.Author.Tests.{not-true, not-false}
-use mathlib.Core.Path.{_≡_, sym, _∙_}
-use mathlib.Core.Bool.{true, false}
-use Prim.Native.Nat.{_≤_}
-use Rattle.rules.specs.Words.{all}
-use Rattle.rules.specs.Book.{openOf}
-use Rattle.rules.specs.Sound.{recordsFit, sizesFit}
+use mathlib.Core.Path.{_≡_, refl, sym, _∙_}
+use mathlib.Core.Bool.{true}
+use Rattle.rules.specs.Layout.{bookOf}
+use Rattle.rules.specs.Sound.{recordsFit}
 use Rattle.sound_positions.specs.Table.{records-within}
+use Rattle.sound_positions.specs.Each.{eachFits}
+use Rattle.soundness.specs.Clauses.{positions-by, each-sizes}
 use Rattle.soundness.proofs.positions_fit.Statement.{statement}
 use Rattle.soundness.proofs.positions_fit.Tie as tie
+
+-- ── a test that was passed ──
+
+records : (c : tie.Else1) → recordsFit (bookOf (c .before .before .before .args .b .now)) ≡ true
+records c = sym (c .before .records-fit .ensures) ∙ not-false _ (c .if1 .left)
+
+each : (c : tie.Else2) → eachFits (bookOf (c .before .before .before .before .before .args .b .now)) ≡ true
+each c = sym (c .before .each-fits .ensures) ∙ not-false _ (c .if2 .left)
+
+-- ── the needs ──
 
 records-fit-requires : tie.Need-records-fit-requires
 records-fit-requires c κs = search needs
 
 returns : tie.Need-returns
-returns c = rw (sym (c .before .records-fit .ensures) ∙ not-true _ (c .if1 .taken))
+returns c = positions-by _ (sym (c .before .records-fit .ensures) ∙ not-true _ (c .if1 .taken)) refl refl refl
 
-sizes-fit-requires : tie.Need-sizes-fit-requires
-sizes-fit-requires c κs = records-within _ (sym (c .before .records-fit .ensures) ∙ not-false _ (c .if1 .left))
+each-fits-requires : tie.Need-each-fits-requires
+each-fits-requires c κs = (c .before .before .before .pre, records-within _ (records c))
 
 returns-2 : tie.Need-returns-2
-returns-2 c = rw (sym (c .before .before .before .records-fit .ensures) ∙ not-false _ (c .before .before .if1 .left), sym (c .before .sizes-fit .ensures) ∙ not-true _ (c .if2 .taken))
-
-due-fits-requires : tie.Need-due-fits-requires
-due-fits-requires c κs = records-within _ (sym (c .before .before .before .records-fit .ensures) ∙ not-false _ (c .before .before .if1 .left))
-
-returns-3 : tie.Need-returns-3
-returns-3 c = rw (sym (c .before .before .before .before .before .records-fit .ensures) ∙ not-false _ (c .before .before .before .before .if1 .left), sym (c .before .before .before .sizes-fit .ensures) ∙ not-false _ (c .before .before .if2 .left), sym (c .before .due-fits .ensures) ∙ not-true _ (c .if3 .taken))
-
-due-nonzero-requires : tie.Need-due-nonzero-requires
-due-nonzero-requires c κs = records-within _ (sym (c .before .before .before .before .before .records-fit .ensures) ∙ not-false _ (c .before .before .before .before .if1 .left))
-
-returns-4 : tie.Need-returns-4
-returns-4 c = rw (sym (c .before .before .before .before .before .before .before .records-fit .ensures) ∙ not-false _ (c .before .before .before .before .before .before .if1 .left), sym (c .before .before .before .before .before .sizes-fit .ensures) ∙ not-false _ (c .before .before .before .before .if2 .left), sym (c .before .before .before .due-fits .ensures) ∙ not-false _ (c .before .before .if3 .left), sym (c .before .due-nonzero .ensures) ∙ not-true _ (c .if4 .taken))
+returns-2 c = positions-by _ (records (c .before .before)) (sym (c .before .each-fits .ensures) ∙ not-true _ (c .if2 .taken)) refl refl
 
 one-sign-requires : tie.Need-one-sign-requires
-one-sign-requires c κs = records-within _ (sym (c .before .before .before .before .before .before .before .records-fit .ensures) ∙ not-false _ (c .before .before .before .before .before .before .if1 .left))
+one-sign-requires c κs = (c .before .before .before .before .before .pre, records-within _ (records (c .before .before)))
 
-returns-5 : tie.Need-returns-5
-returns-5 c = rw (sym (c .before .before .before .before .before .before .before .before .before .records-fit .ensures) ∙ not-false _ (c .before .before .before .before .before .before .before .before .if1 .left), sym (c .before .before .before .before .before .before .before .sizes-fit .ensures) ∙ not-false _ (c .before .before .before .before .before .before .if2 .left), sym (c .before .before .before .before .before .due-fits .ensures) ∙ not-false _ (c .before .before .before .before .if3 .left), sym (c .before .before .before .due-nonzero .ensures) ∙ not-false _ (c .before .before .if4 .left), sym (c .before .one-sign .ensures) ∙ not-true _ (c .if5 .taken))
+returns-3 : tie.Need-returns-3
+returns-3 c = positions-by _ (records (c .before .before .before .before)) (each (c .before .before)) (sym (c .before .one-sign .ensures) ∙ not-true _ (c .if3 .taken)) refl
 
 due-balanced-requires : tie.Need-due-balanced-requires
-due-balanced-requires c κs = (records-within _ (sym (c .before .before .before .before .before .before .before .before .before .records-fit .ensures) ∙ not-false _ (c .before .before .before .before .before .before .before .before .if1 .left)), sym (c .before .before .before .before .before .before .before .sizes-fit .ensures) ∙ not-false _ (c .before .before .before .before .before .before .if2 .left))
+due-balanced-requires c κs = (c .before .before .before .before .before .before .before .pre, (records-within _ (records (c .before .before .before .before)), each-sizes _ (each (c .before .before))))
 
-returns-6 : tie.Need-returns-6
-returns-6 c = rw (sym (c .before .before .before .before .before .before .before .before .before .before .records-fit .ensures) ∙ not-false _ (c .before .before .before .before .before .before .before .before .before .if1 .left), sym (c .before .before .before .before .before .before .before .before .sizes-fit .ensures) ∙ not-false _ (c .before .before .before .before .before .before .before .if2 .left), sym (c .before .before .before .before .before .before .due-fits .ensures) ∙ not-false _ (c .before .before .before .before .before .if3 .left), sym (c .before .before .before .before .due-nonzero .ensures) ∙ not-false _ (c .before .before .before .if4 .left), sym (c .before .before .one-sign .ensures) ∙ not-false _ (c .before .if5 .left)) (c .due-balanced .ensures)
+returns-4 : tie.Need-returns-4
+returns-4 c = c .due-balanced .ensures ∙ positions-by _ (records (c .before .before .before .before .before)) (each (c .before .before .before)) (sym (c .before .before .one-sign .ensures) ∙ not-false _ (c .before .if3 .left)) refl
 
 pub positions-fit-spec : {M : Type 1} → statement M
 positions-fit-spec =
@@ -53,13 +51,9 @@ positions-fit-spec =
     (tie.spec
     records-fit-requires
     returns
-    sizes-fit-requires
+    each-fits-requires
     returns-2
-    due-fits-requires
-    returns-3
-    due-nonzero-requires
-    returns-4
     one-sign-requires
-    returns-5
+    returns-3
     due-balanced-requires
-    returns-6)
+    returns-4)

@@ -20,14 +20,14 @@ abbrev μ-loop : tie.MeasureT-loop
 loop-holds : tie.Need-loop-holds Inv-loop μ-loop
 loop-holds c = (omega arith, (refl, read-none amount _))
 
-mul-get : tie.Need-mul-get Inv-loop μ-loop
-mul-get c = search needs
+mul-word : tie.Need-mul-word Inv-loop μ-loop
+mul-word c = search needs
 
-add-get : tie.Need-add-get Inv-loop μ-loop
-add-get c = search needs
+add-word : tie.Need-add-word Inv-loop μ-loop
+add-word c = search needs
 
-get-requires : tie.Need-get-requires Inv-loop μ-loop
-get-requires c κs = search needs
+word-requires : tie.Need-word-requires Inv-loop μ-loop
+word-requires c κs = search needs
 
 from-bits-requires : tie.Need-from-bits-requires Inv-loop μ-loop
 from-bits-requires c κs = search needs
@@ -51,7 +51,7 @@ loop-again c =
       (
         simp length-set (l .inv .1 .0),
         read-more amount (l .i) chargesPlace _ (l .t) _ (omega arith) (l .inv .1 .1)
-            (amount-read _ _ _ _ (c .before .get .ensures .0) (c .from-bits .ensures)),
+            (amount-read _ _ _ _ (c .before .word .ensures) (c .from-bits .ensures)),
       ),
     )
 
@@ -65,9 +65,9 @@ charges-at-spec =
     Inv-loop
     μ-loop
     loop-holds
-    mul-get
-    add-get
-    get-requires
+    mul-word
+    add-word
+    word-requires
     from-bits-requires
     mul-t
     array-set-from-t

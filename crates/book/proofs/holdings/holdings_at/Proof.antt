@@ -19,14 +19,14 @@ abbrev μ-loop : tie.MeasureT-loop
 loop-holds : tie.Need-loop-holds Inv-loop μ-loop
 loop-holds c = (omega arith, (refl, read-none (number 8) _))
 
-mul-get : tie.Need-mul-get Inv-loop μ-loop
-mul-get c = search needs
+mul-word : tie.Need-mul-word Inv-loop μ-loop
+mul-word c = search needs
 
-add-get : tie.Need-add-get Inv-loop μ-loop
-add-get c = search needs
+add-word : tie.Need-add-word Inv-loop μ-loop
+add-word c = search needs
 
-get-requires : tie.Need-get-requires Inv-loop μ-loop
-get-requires c κs = search needs
+word-requires : tie.Need-word-requires Inv-loop μ-loop
+word-requires c κs = search needs
 
 mul-t : tie.Need-mul-t Inv-loop μ-loop
 mul-t c = search needs
@@ -47,7 +47,7 @@ loop-again c =
       (
         simp length-set (l .inv .1 .0),
         read-more (number 8) (l .i) holdingsPlace _ (l .t) _ (omega arith) (l .inv .1 .1)
-            (number-read 8 _ _ _ (c .get .ensures .0)),
+            (number-read 8 _ _ _ (c .word .ensures)),
       ),
     )
 
@@ -61,9 +61,9 @@ holdings-at-spec =
     Inv-loop
     μ-loop
     loop-holds
-    mul-get
-    add-get
-    get-requires
+    mul-word
+    add-word
+    word-requires
     mul-t
     array-write-t
     add-i

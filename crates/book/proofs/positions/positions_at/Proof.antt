@@ -19,14 +19,14 @@ abbrev μ-loop : tie.MeasureT-loop
 loop-holds : tie.Need-loop-holds Inv-loop μ-loop
 loop-holds c = (omega arith, (refl, read-none position _))
 
-mul-position-at : tie.Need-mul-position-at Inv-loop μ-loop
-mul-position-at c = search needs
+mul-row-at : tie.Need-mul-row-at Inv-loop μ-loop
+mul-row-at c = search needs
 
-add-position-at : tie.Need-add-position-at Inv-loop μ-loop
-add-position-at c = search needs
+add-row-at : tie.Need-add-row-at Inv-loop μ-loop
+add-row-at c = search needs
 
-position-at-requires : tie.Need-position-at-requires Inv-loop μ-loop
-position-at-requires c κs = search needs
+row-at-requires : tie.Need-row-at-requires Inv-loop μ-loop
+row-at-requires c κs = search needs
 
 mul-t : tie.Need-mul-t Inv-loop μ-loop
 mul-t c = search needs
@@ -47,7 +47,7 @@ loop-again c =
       (
         simp length-set (l .inv .1 .0),
         read-more position (l .i) positionsPlace _ (l .t) _ (omega arith) (l .inv .1 .1)
-            (c .position-at .ensures),
+            (c .row-at .ensures),
       ),
     )
 
@@ -61,9 +61,9 @@ positions-at-spec =
     Inv-loop
     μ-loop
     loop-holds
-    mul-position-at
-    add-position-at
-    position-at-requires
+    mul-row-at
+    add-row-at
+    row-at-requires
     mul-t
     array-set-from-t
     add-i

@@ -1,94 +1,20 @@
--- `book::trades::trade_at` meets its contract. The fields read at their places are the row (`trade-read`). Assumes nothing.
+-- `book::trades::trade_at` meets its contract. Assumes nothing.
 use borrow.Author.Needs.{needs}
-use Rattle.book.specs.Reading.{trade-read}
+use Rattle.book.specs.Views.{trade-view}
 use Rattle.book.proofs.trades.trade_at.Statement.{statement}
 use Rattle.book.proofs.trades.trade_at.Tie as tie
 
-get-requires : tie.Need-get-requires
-get-requires c κs = search needs
+mul-row-at : tie.Need-mul-row-at
+mul-row-at c = search needs
 
-cast-number : tie.Need-cast-number
-cast-number c = search needs
+add-row-at : tie.Need-add-row-at
+add-row-at c = search needs
 
-add-get : tie.Need-add-get
-add-get c = search needs
-
-get-requires-2 : tie.Need-get-requires-2
-get-requires-2 c κs = search needs
-
-cast-buyer : tie.Need-cast-buyer
-cast-buyer c = search needs
-
-add-get-2 : tie.Need-add-get-2
-add-get-2 c = search needs
-
-get-requires-3 : tie.Need-get-requires-3
-get-requires-3 c κs = search needs
-
-cast-seller : tie.Need-cast-seller
-cast-seller c = search needs
-
-add-get-3 : tie.Need-add-get-3
-add-get-3 c = search needs
-
-get-requires-4 : tie.Need-get-requires-4
-get-requires-4 c κs = search needs
-
-cast-security : tie.Need-cast-security
-cast-security c = search needs
-
-add-get-4 : tie.Need-add-get-4
-add-get-4 c = search needs
-
-get-requires-5 : tie.Need-get-requires-5
-get-requires-5 c κs = search needs
-
-cast-quantity : tie.Need-cast-quantity
-cast-quantity c = search needs
-
-add-get-5 : tie.Need-add-get-5
-add-get-5 c = search needs
-
-get-requires-6 : tie.Need-get-requires-6
-get-requires-6 c κs = search needs
-
-cast-price : tie.Need-cast-price
-cast-price c = search needs
+row-at-requires : tie.Need-row-at-requires
+row-at-requires c κs = search needs
 
 returns : tie.Need-returns
-returns c =
-    let quantity = c .before in
-    let security = quantity .before in
-    let seller = security .before in
-    let buyer = seller .before in
-    let number = buyer .before in
-    trade-read _ _ _
-    (number .get .ensures .0)
-    (buyer .get2 .ensures .0)
-    (seller .get3 .ensures .0)
-    (security .get4 .ensures .0)
-    (quantity .get5 .ensures .0)
-    (c .get6 .ensures .0)
+returns c = trade-view _ _ _ (c .before .before .pre .1) (c .row-at .ensures)
 
 pub trade-at-spec : {M : Type 1} → statement M
-trade-at-spec =
-    tie.close
-    (tie.spec
-    get-requires
-    cast-number
-    add-get
-    get-requires-2
-    cast-buyer
-    add-get-2
-    get-requires-3
-    cast-seller
-    add-get-3
-    get-requires-4
-    cast-security
-    add-get-4
-    get-requires-5
-    cast-quantity
-    add-get-5
-    get-requires-6
-    cast-price
-    returns)
+trade-at-spec = tie.close (tie.spec mul-row-at add-row-at row-at-requires returns)

@@ -19,14 +19,14 @@ abbrev μ-loop : tie.MeasureT-loop
 loop-holds : tie.Need-loop-holds Inv-loop μ-loop
 loop-holds c = (omega arith, (refl, read-none trade _))
 
-mul-trade-at : tie.Need-mul-trade-at Inv-loop μ-loop
-mul-trade-at c = search needs
+mul-row-at : tie.Need-mul-row-at Inv-loop μ-loop
+mul-row-at c = search needs
 
-add-trade-at : tie.Need-add-trade-at Inv-loop μ-loop
-add-trade-at c = search needs
+add-row-at : tie.Need-add-row-at Inv-loop μ-loop
+add-row-at c = search needs
 
-trade-at-requires : tie.Need-trade-at-requires Inv-loop μ-loop
-trade-at-requires c κs = search needs
+row-at-requires : tie.Need-row-at-requires Inv-loop μ-loop
+row-at-requires c κs = search needs
 
 mul-t : tie.Need-mul-t Inv-loop μ-loop
 mul-t c = search needs
@@ -47,7 +47,7 @@ loop-again c =
       (
         simp length-set (l .inv .1 .0),
         read-more trade (l .i) tradesPlace _ (l .t) _ (omega arith) (l .inv .1 .1)
-            (c .trade-at .ensures),
+            (c .row-at .ensures),
       ),
     )
 
@@ -61,9 +61,9 @@ trades-at-spec =
     Inv-loop
     μ-loop
     loop-holds
-    mul-trade-at
-    add-trade-at
-    trade-at-requires
+    mul-row-at
+    add-row-at
+    row-at-requires
     mul-t
     array-set-from-t
     add-i

@@ -1,11 +1,11 @@
 -- `sound_positions::balance::sides_equal` meets its contract. The securities before s have equal sides. Assumes nothing.
 use borrow.Author.Needs.{needs}
+use borrow.Author.Tests.{eq-eqb, ne-eqb}
 use mathlib.Core.Path.{_≡_, ap, _∙_}
 use mathlib.Core.Bool.{true}
-use Prim.Native.Nat.{_-_, _≤_}
+use Prim.Native.Nat.{_≤_, _-_}
 use native.Mathlib.Omega.{arith}
 use lib.ListN.{take}
-use borrow.Author.Tests.{eq-eqb, ne-eqb}
 use Rattle.rules.specs.Words.{all}
 use Rattle.rules.specs.Bounds.{everySecurity}
 use Rattle.laws.specs.Walks.{all-none, all-more, all-fails, all-done}
@@ -14,13 +14,13 @@ use Rattle.sound_positions.proofs.balance.sides_equal.Statement.{statem
 use Rattle.sound_positions.proofs.balance.sides_equal.Tie as tie
 
 abbrev Inv-loop : tie.InvT-loop
-Inv-loop t s₀ s = (s ≤ 32) × (all (equalAt t) (take s everySecurity) ≡ true)
+Inv-loop receive deliver s₀ s = (s ≤ 32) × (all (equalAt receive deliver) (take s everySecurity) ≡ true)
 
 abbrev μ-loop : tie.MeasureT-loop
-μ-loop t s₀ s = 32 - s
+μ-loop receive deliver s₀ s = 32 - s
 
 loop-holds : tie.Need-loop-holds Inv-loop μ-loop
-loop-holds c = (omega arith, all-none (equalAt (c .args .t1)) everySecurity)
+loop-holds c = (omega arith, all-none (equalAt (c .args .receive .now) (c .args .deliver .now)) everySecurity)
 
 mul-if1 : tie.Need-mul-if1 Inv-loop μ-loop
 mul-if1 c = search needs
@@ -37,9 +37,8 @@ element-copy-out-if1-2 c = search needs
 returns : tie.Need-returns Inv-loop μ-loop
 returns c =
     let l = c .before .before .before .before .loop in
-    let s = c .before .before .before .before .before in
-    all-fails (equalAt (s .args .t1)) everySecurity (l .s) 0 (omega (arith, securities-length))
-    (ap (equalAt (s .args .t1)) (security-at (l .s) (omega arith)) ∙ ne-eqb _ _ (c .if1 .taken))
+    let t = equalAt (c .before .before .before .before .before .args .receive .now) (c .before .before .before .before .before .args .deliver .now) in
+    all-fails t everySecurity (l .s) 0 (omega (arith, securities-length)) (ap t (security-at (l .s) (omega arith)) ∙ ne-eqb _ _ (c .if1 .taken))
 
 add-s : tie.Need-add-s Inv-loop μ-loop
 add-s c = search needs
@@ -50,14 +49,16 @@ loop-less c = search needs
 loop-again : tie.Need-loop-again Inv-loop μ-loop
 loop-again c =
     let l = c .before .before .before .before .loop in
-    let s = c .before .before .before .before .before in (
+    let t = equalAt (c .before .before .before .before .before .args .receive .now) (c .before .before .before .before .before .args .deliver .now) in (
       omega arith,
-      all-more (equalAt (s .args .t1)) everySecurity (l .s) 0 (omega (arith, securities-length)) (l .inv .1)
-          (ap (equalAt (s .args .t1)) (security-at (l .s) (omega arith)) ∙ eq-eqb _ _ (c .if1 .left)),
+      all-more t everySecurity (l .s) 0 (omega (arith, securities-length)) (l .inv .1)
+          (ap t (security-at (l .s) (omega arith)) ∙ eq-eqb _ _ (c .if1 .left)),
     )
 
 returns-2 : tie.Need-returns-2 Inv-loop μ-loop
-returns-2 c = let l = c .before .loop in all-done (equalAt (c .before .before .args .t1)) everySecurity (l .s) (omega (arith, securities-length)) (l .inv .1)
+returns-2 c =
+    let l = c .before .loop in
+    all-done (equalAt (c .before .before .args .receive .now) (c .before .before .args .deliver .now)) everySecurity (l .s) (omega (arith, securities-length)) (l .inv .1)
 
 pub sides-equal-spec : {M : Type 1} → statement M
 sides-equal-spec =

@@ -13,17 +13,17 @@ returns : tie.Need-returns
 unfolding holdingsFit
 returns c = rw (sym (c .before .each-within .ensures) ∙ not-true _ (c .if1 .taken))
 
-totals-held-requires : tie.Need-totals-held-requires
-totals-held-requires c κs = sym (c .before .each-within .ensures) ∙ not-false _ (c .if1 .left)
+totals-at-requires : tie.Need-totals-at-requires
+totals-at-requires c κs = (c .before .before .before .pre, sym (c .before .each-within .ensures) ∙ not-false _ (c .if1 .left))
 
 totals-within-requires : tie.Need-totals-within-requires
 totals-within-requires c κs = search needs
 
 returns-2 : tie.Need-returns-2
 unfolding holdingsFit
-returns-2 c = rw (sym (c .before .before .before .each-within .ensures) ∙ not-false _ (c .before .before .if1 .left), ← c .before .totals-held .ensures) (c .totals-within .ensures)
+returns-2 c = rw (sym (c .before .before .before .each-within .ensures) ∙ not-false _ (c .before .before .if1 .left), ← c .before .totals-at .ensures) (c .totals-within .ensures)
 
 pub holdings-fit-spec : {M : Type 1} → statement M
 holdings-fit-spec =
     tie.close
-    (tie.spec each-within-requires returns totals-held-requires totals-within-requires returns-2)
+    (tie.spec each-within-requires returns totals-at-requires totals-within-requires returns-2)

@@ -1,13 +1,13 @@
 -- `sound_tables::money::add_money` meets its contract. Assumes nothing.
 use borrow.Author.Needs.{needs}
-use native.Mathlib.Omega.{arith}
 use Prim.Native.Nat.{_+_, _^_, _<_}
+use native.Mathlib.Omega.{arith}
 use lib.ListN.{getD}
 use Rattle.sound_tables.proofs.money.add_money.Statement.{statement}
 use Rattle.sound_tables.proofs.money.add_money.Tie as tie
 
-room : (c : tie.After-size) → getD (c .before .before .before .args .sums .now) (c .before .before .place-of .result) 0 + c .size .result < 2 ^ 64
-room c = rw (c .before .before .place-of .ensures .0, c .size .ensures) (c .before .before .before .pre .fits)
+room : (c : tie.After-size) → getD (c .before .before .before .before .args .sums .now) (c .before .before .place-of .result) 0 + c .size .result < 2 ^ 64
+room c = rw (c .before .before .place-of .ensures .0, c .size .ensures) (c .before .before .before .before .pre .1 .fits)
 
 place-of-requires : tie.Need-place-of-requires
 place-of-requires c κs = search needs

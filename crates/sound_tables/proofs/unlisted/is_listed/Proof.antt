@@ -7,12 +7,12 @@ use Rattle.sound_tables.proofs.unlisted.is_listed.Tie as tie
 security-of-requires : tie.Need-security-of-requires
 security-of-requires c κs = search needs
 
-array-read-result : tie.Need-array-read-result
-array-read-result c = search needs
+code-at-requires : tie.Need-code-at-requires
+code-at-requires c κs = search needs
 
 returns : tie.Need-returns
 unfolding unlisted currencyOf
-returns c = λ k e. rw (e, ← c .security-of .ensures .0)
+returns c = rw (← c .before .security-of .ensures .0, ← c .code-at .ensures)
 
 pub is-listed-spec : {M : Type 1} → statement M
-is-listed-spec = tie.close (tie.spec security-of-requires array-read-result returns)
+is-listed-spec = tie.close (tie.spec security-of-requires code-at-requires returns)

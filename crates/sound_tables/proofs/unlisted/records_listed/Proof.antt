@@ -1,18 +1,19 @@
 -- `sound_tables::unlisted::records_listed` meets its contract. The loop's invariant: the records before `i` pass. Assumes nothing.
 use borrow.Author.Needs.{needs}
 use borrow.Author.Tests.{not-true, not-false}
-use native.Mathlib.Omega.{arith}
-use Prim.Native.Nat.{_-_, _≤_}
+use mathlib.Core.Path.{_≡_, sym, ap, _∙_}
 use mathlib.Core.Bool.{Bool, true, not}
-use mathlib.Core.Path.{_≡_, refl, sym, _∙_}
-use lib.ListN.{length, take}
-use Rattle.laws.specs.Walks.{all-none}
-use Rattle.rules.specs.Book.{openOf, noPosition, securityOf, unlisted}
+use Prim.Native.Nat.{_≤_, _-_}
+use native.Mathlib.Omega.{arith}
+use lib.ListN.{getD, take}
 use Rattle.rules.specs.Words.{all}
-use Rattle.rules.specs.declared.Book.{Book}
+use Rattle.rules.specs.Book.{noPosition, securityOf, openOf, unlisted}
+use Rattle.rules.specs.Layout.{bookOf}
 use Rattle.rules.specs.declared.Position.{Position}
-use Rattle.fields.specs.Lengths.{unmapped}
-use Rattle.sound_tables.specs.Parts.{used-more, used-fails, used-done}
+use Rattle.rules.specs.declared.Book.{Book}
+use Rattle.laws.specs.Walks.{all-none, all-more}
+use Rattle.book.specs.Views.{positions-long}
+use Rattle.sound_positions.specs.Table.{take-fails, take-done}
 use Rattle.sound_tables.proofs.unlisted.records_listed.Statement.{statement}
 use Rattle.sound_tables.proofs.unlisted.records_listed.Tie as tie
 
@@ -20,35 +21,38 @@ abbrev fits : Book → Position → Bool
 fits k p = not (unlisted k (securityOf p))
 
 abbrev Inv-loop : tie.InvT-loop
-Inv-loop k codes n i₀ i = (i ≤ n) × (all (fits k) (take i (openOf k)) ≡ true)
+Inv-loop b n i₀ i = (i ≤ n) × (all (fits (bookOf b)) (take i (bookOf b .positions)) ≡ true)
 
 abbrev μ-loop : tie.MeasureT-loop
-μ-loop k codes n i₀ i = n - i
+μ-loop b n i₀ i = n - i
 
-long : (c : tie.Start Inv-loop μ-loop) → length (c .args .t1 .positions) ≡ 1024
-long c = search (needs, unmapped)
+abbrev book : tie.At-loop Inv-loop μ-loop → Book
+book c = bookOf (c .before .before .before .args .b .now)
+
+tested : (c : tie.After-is-listed Inv-loop μ-loop) → fits (book (c .before .before .before)) (getD (book (c .before .before .before) .positions) (c .before .before .before .loop .i) noPosition) ≡ c .is-listed .result
+tested c = ap (fits (book (c .before .before .before))) (sym (c .before .position-at .ensures)) ∙ sym (c .is-listed .ensures)
+
+records-at-requires : tie.Need-records-at-requires Inv-loop μ-loop
+records-at-requires c κs = search needs
 
 cast-n : tie.Need-cast-n Inv-loop μ-loop
 cast-n c = search needs
 
 loop-holds : tie.Need-loop-holds Inv-loop μ-loop
-unfolding openOf
-loop-holds c = (omega arith, all-none (fits (c .before .args .t1)) (openOf (c .before .args .t1)))
+loop-holds c = (omega arith, all-none (fits (bookOf (c .before .before .args .b .now))) (bookOf (c .before .before .args .b .now) .positions))
 
-mul-p : tie.Need-mul-p Inv-loop μ-loop
-mul-p c = search needs
-
-element-copy-out-p : tie.Need-element-copy-out-p Inv-loop μ-loop
-element-copy-out-p c = search needs
+position-at-requires : tie.Need-position-at-requires Inv-loop μ-loop
+position-at-requires c κs = search needs
 
 is-listed-requires : tie.Need-is-listed-requires Inv-loop μ-loop
 is-listed-requires c κs = search needs
 
 returns : tie.Need-returns Inv-loop μ-loop
 unfolding openOf
-returns c = let l = c .before .before .before .before .loop in
-    let s = c .before .before .before .before .before .before in
-    used-fails (fits (s .args .t1)) (s .args .t1 .positions) (s .args .t1 .records) (omega (arith, long s)) (l .i) noPosition (omega arith) (sym (c .before .is-listed .ensures (s .args .t1) refl) ∙ not-true _ (c .if1 .taken))
+returns c =
+    let bs = c .before .before .before .before .before .before .before .args .b .now in
+    let k = bookOf bs in
+    take-fails (fits k) (k .positions) (k .records) (c .before .before .before .before .loop .i) noPosition (omega (arith, positions-long bs)) (omega arith) (tested (c .before) ∙ not-true _ (c .if1 .taken))
 
 add-i : tie.Need-add-i Inv-loop μ-loop
 add-i c = search needs
@@ -57,16 +61,17 @@ loop-less : tie.Need-loop-less Inv-loop μ-loop
 loop-less c = search needs
 
 loop-again : tie.Need-loop-again Inv-loop μ-loop
-unfolding openOf
-loop-again c = let l = c .before .before .before .before .loop in
-    let s = c .before .before .before .before .before .before in
-    (omega arith, used-more (fits (s .args .t1)) (s .args .t1 .positions) (s .args .t1 .records) (omega (arith, long s)) (l .i) noPosition (omega arith) (l .inv .1) (sym (c .before .is-listed .ensures (s .args .t1) refl) ∙ not-false _ (c .if1 .left)))
+loop-again c =
+    let bs = c .before .before .before .before .before .before .before .args .b .now in
+    let k = bookOf bs in
+    let l = c .before .before .before .before .loop in
+    (omega arith, all-more (fits k) (k .positions) (l .i) noPosition (omega (arith, positions-long bs)) (l .inv .1) (tested (c .before) ∙ not-false _ (c .if1 .left)))
 
 returns-2 : tie.Need-returns-2 Inv-loop μ-loop
 unfolding openOf
-returns-2 c = let l = c .before .loop in
-    let s = c .before .before .before in
-    used-done (fits (s .args .t1)) (s .args .t1 .positions) (s .args .t1 .records) (omega (arith, long s)) (l .i) (omega arith) (l .inv .1)
+returns-2 c =
+    let k = bookOf (c .before .before .before .before .args .b .now) in
+    take-done (fits k) (k .positions) (k .records) (c .before .loop .i) (omega arith) (c .before .loop .inv .1)
 
 pub records-listed-spec : {M : Type 1} → statement M
 records-listed-spec =
@@ -74,10 +79,10 @@ records-listed-spec =
     (tie.spec
     Inv-loop
     μ-loop
+    records-at-requires
     cast-n
     loop-holds
-    mul-p
-    element-copy-out-p
+    position-at-requires
     is-listed-requires
     returns
     add-i

@@ -18,7 +18,7 @@ holdings-listed-requires c κs = search needs
 
 returns-2 : tie.Need-returns-2
 unfolding unlistedEmpty
-returns-2 c = rw (sym (c .before .before .before .before .records-listed .ensures) ∙ not-false _ (c .before .before .before .if1 .left)) (c .holdings-listed .ensures)
+returns-2 c = rw (sym (c .before .before .records-listed .ensures) ∙ not-false _ (c .before .if1 .left)) (c .holdings-listed .ensures)
 
 pub unlisted-empty-spec : {M : Type 1} → statement M
 unlisted-empty-spec =

@@ -4,14 +4,15 @@ use borrow.Author.Tests.{eq-eqb, ne-eqb}
 use native.Mathlib.Omega.{arith}
 use Prim.Native.Nat.{ℕ, _-_, _≤_}
 use mathlib.Core.Bool.{Bool, false}
-use mathlib.Core.Path.{_≡_}
+use mathlib.Core.Path.{_≡_, sym, ap, _∙_}
 use lib.Dec.{eqb}
-use lib.ListN.{length, take}
+use lib.ListN.{take}
 use Rattle.rules.specs.Book.{listOf, noTrade}
+use Rattle.rules.specs.Layout.{bookOf}
 use Rattle.rules.specs.Trades.{used}
 use Rattle.rules.specs.Words.{any}
 use Rattle.rules.specs.declared.Trade.{Trade}
-use Rattle.fields.specs.Lengths.{unmapped}
+use Rattle.book.specs.Views.{trades-long}
 use Rattle.trading.specs.Finding.{any-none, listed-more, listed-found, listed-done}
 use Rattle.trading.proofs.list.is_used.Statement.{statement}
 use Rattle.trading.proofs.list.is_used.Tie as tie
@@ -20,33 +21,31 @@ abbrev asked : ℕ → Trade → Bool
 asked n t = eqb (t .number) n
 
 abbrev Inv-loop : tie.InvT-loop
-Inv-loop number k n i₀ i = (i ≤ n) × (any (asked number) (take i (listOf k)) ≡ false)
+Inv-loop b number n i₀ i = (i ≤ n) × (any (asked number) (take i (listOf (bookOf b))) ≡ false)
 
 abbrev μ-loop : tie.MeasureT-loop
-μ-loop number k n i₀ i = n - i
+μ-loop b number n i₀ i = n - i
 
-long : (c : tie.Start Inv-loop μ-loop) → length (c .args .t1 .trades) ≡ 256
-long c = search (needs, unmapped)
+entries-at-requires : tie.Need-entries-at-requires Inv-loop μ-loop
+entries-at-requires c κs = search needs
 
 cast-n : tie.Need-cast-n Inv-loop μ-loop
 cast-n c = search needs
 
 loop-holds : tie.Need-loop-holds Inv-loop μ-loop
 unfolding listOf
-loop-holds c = (omega arith, any-none (asked (c .args .number)) (listOf (c .args .t1)))
+loop-holds c = (omega arith, any-none (asked (c .before .before .args .number)) (listOf (bookOf (c .before .before .args .b .now))))
 
-mul-t : tie.Need-mul-t Inv-loop μ-loop
-mul-t c = search needs
-
-element-copy-out-t : tie.Need-element-copy-out-t Inv-loop μ-loop
-element-copy-out-t c = search needs
+trade-at-requires : tie.Need-trade-at-requires Inv-loop μ-loop
+trade-at-requires c κs = search needs
 
 returns : tie.Need-returns Inv-loop μ-loop
 unfolding listOf used
 returns c =
-    let l = c .before .before .before .before .loop in
-    let s = c .before .before .before .before .before in
-    listed-found (asked (s .args .number)) (s .args .t1 .trades) (s .args .t1 .entries) (omega (arith, long s)) (l .i) noTrade (omega arith) (eq-eqb _ _ (c .if1 .taken))
+    let a = c .before .before .before .before .before .before .before .args in
+    let k = bookOf (a .b .now) in
+    listed-found (asked (a .number)) (k .trades) (k .entries) (omega (arith, trades-long (a .b .now))) (c .before .before .before .before .loop .i) noTrade (omega arith)
+    (ap (asked (c .before .before .before .before .before .before .before .args .number)) (sym (c .before .before .trade-at .ensures)) ∙ eq-eqb _ _ (c .if1 .taken))
 
 add-i : tie.Need-add-i Inv-loop μ-loop
 add-i c = search needs
@@ -57,16 +56,20 @@ loop-less c = search needs
 loop-again : tie.Need-loop-again Inv-loop μ-loop
 unfolding listOf
 loop-again c =
-    let l = c .before .before .before .before .loop in
-    let s = c .before .before .before .before .before in
-    (omega arith, listed-more (asked (s .args .number)) (s .args .t1 .trades) (s .args .t1 .entries) (omega (arith, long s)) (l .i) noTrade (omega arith) (l .inv .1) (ne-eqb _ _ (c .if1 .left)))
+    let a = c .before .before .before .before .before .before .before .args in
+    let k = bookOf (a .b .now) in
+    let l = c .before .before .before .before .loop in (
+      omega arith,
+      listed-more (asked (a .number)) (k .trades) (k .entries) (omega (arith, trades-long (a .b .now))) (l .i) noTrade (omega arith) (l .inv .1)
+          (ap (asked (c .before .before .before .before .before .before .before .args .number)) (sym (c .before .before .trade-at .ensures)) ∙ ne-eqb _ _ (c .if1 .left)),
+    )
 
 returns-2 : tie.Need-returns-2 Inv-loop μ-loop
 unfolding listOf used
 returns-2 c =
-    let l = c .before .loop in
-    let s = c .before .before in
-    listed-done (asked (s .args .number)) (s .args .t1 .trades) (s .args .t1 .entries) (omega (arith, long s)) (l .i) (omega arith) (l .inv .1)
+    let a = c .before .before .before .before .args in
+    let k = bookOf (a .b .now) in
+    listed-done (asked (a .number)) (k .trades) (k .entries) (omega (arith, trades-long (a .b .now))) (c .before .loop .i) (omega arith) (c .before .loop .inv .1)
 
 pub is-used-spec : {M : Type 1} → statement M
 is-used-spec =
@@ -74,10 +77,10 @@ is-used-spec =
     (tie.spec
     Inv-loop
     μ-loop
+    entries-at-requires
     cast-n
     loop-holds
-    mul-t
-    element-copy-out-t
+    trade-at-requires
     returns
     add-i
     loop-less

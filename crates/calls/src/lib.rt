@@ -1,0 +1,15 @@
+// Each call that alters the book, on lent bytes that are known to be a sound book (document 01, the rules of each call;
+// refusals above 1). `house` makes the test for soundness in front of them; in a file it is made once, for every call
+// leaves a sound book.
+mod entries;
+mod holdings;
+mod rolls;
+mod runs;
+
+pub use entries::amend;
+pub use entries::enter;
+pub use entries::exclude;
+pub use holdings::deposit;
+pub use holdings::withdraw;
+pub use rolls::roll;
+pub use runs::run;

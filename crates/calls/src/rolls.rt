@@ -1,0 +1,28 @@
+// The day roll (document 01, "From trades to positions"; refusals 10 and 14).
+use book::load;
+use book::store;
+use netting::before_offset;
+use netting::with_nets;
+use offsetting::offset_due;
+ghost use mathlib.Core.Path.{_≡_};
+ghost use mathlib.Core.Bool.{false};
+ghost use Rattle.rules.specs.Sound.{notSound};
+ghost use Rattle.rules.specs.Calls.{roll, answerBytes, afterBytes};
+
+pub fn roll(book: &mut [u8]) -> u8
+    requires { ⌜ notSound (now book) ≡ false ⌝ }
+    ensures { λ r. ⌜ (r ≡ answerBytes (now (book .entry)) roll) × (now (book .exit) ≡ afterBytes (now (book .entry)) roll) ⌝ }
+{
+    let k = load(book);
+    let netted = with_nets(k);
+    if netted.count > 1024 {
+        return 10;
+    }
+    if k.day == 60_000 {
+        return 14;
+    }
+    let ready = before_offset(k, netted);
+    let rolled = offset_due(ready);
+    store(rolled, book);
+    0
+}

@@ -1,0 +1,25 @@
+// Marks of an account (document 01, "Marks"; refusals 1, 2, 18, 5, 15, 17, 16). The book is only read.
+use book::load;
+use marking::marks_of;
+use rules::MarksAnswer;
+use soundness::not_sound;
+ghost use mathlib.Core.Path.{_≡_};
+ghost use Rattle.rules.specs.Marks.{marks};
+ghost use Rattle.marking.specs.SoundMarks.{terms};
+
+pub fn marks(
+    book: &[u8],
+    account: u8,
+    intraday: &[u8],
+    closing: &[u8],
+    rates: &[u32],
+    haircuts: &[u32],
+) -> MarksAnswer
+    ensures { λ r. ⌜ r ≡ marks (now (book .entry)) account (terms (now (intraday .entry)) (now (closing .entry)) (now (rates .entry)) (now (haircuts .entry))) ⌝ }
+{
+    if not_sound(book) {
+        return MarksAnswer::MarksRefused(1);
+    }
+    let k = load(book);
+    marks_of(k, account, intraday, closing, rates, haircuts)
+}

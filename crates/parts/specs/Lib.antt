@@ -1,0 +1,2 @@
+-- Records that remain, packed.
+pub mod Packing

@@ -1,0 +1,80 @@
+// Who gives and who receives (document 01, "Settlement run"): what a record owes and wants of the security, what its
+// account holds, and the shares of a meeting.
+use rules::Position;
+use sound_positions::account_of;
+use sound_positions::is_due;
+use sound_positions::security_of;
+ghost use mathlib.Core.Path.{_≡_};
+ghost use Prim.Native.Nat.{min, _<_};
+ghost use Rattle.rules.specs.Book.{accountOf, holdingAt};
+ghost use Rattle.laws.specs.Walk.{isDueIn, owes, wants};
+
+fn is_due_in(day: u16, security: u8, p: Position) -> bool
+    ensures { λ r. ⌜ r ≡ isDueIn day security p ⌝ }
+{
+    let s = security as usize;
+    if security_of(p) != s {
+        return false;
+    }
+    is_due(day, p)
+}
+
+// Shares to deliver are a negative quantity,
+pub fn owes_of(day: u16, security: u8, p: Position) -> u64
+    ensures { λ r. ⌜ r ≡ owes day security p ⌝ }
+{
+    if !is_due_in(day, security, p) {
+        return 0;
+    }
+    let q = p.quantity;
+    if q.is_negative() {
+        return q.size();
+    }
+    0
+}
+
+// shares to receive a positive one.
+pub fn wants_of(day: u16, security: u8, p: Position) -> u64
+    ensures { λ r. ⌜ r ≡ wants day security p ⌝ }
+{
+    if !is_due_in(day, security, p) {
+        return 0;
+    }
+    let q = p.quantity;
+    if q.is_negative() {
+        return 0;
+    }
+    q.size()
+}
+
+// Where the account of a record holds its shares of the security.
+pub fn holding_place(p: Position, security: u8) -> usize
+    requires { ⌜ security < 32 ⌝ }
+    ensures { λ r. ⌜ (r ≡ holdingAt (accountOf p) security) × (r < 2048) ⌝ }
+{
+    let a = account_of(p);
+    let s = security as usize;
+    a * 32 + s
+}
+
+pub fn smaller(a: u64, b: u64) -> u64
+    ensures { λ r. ⌜ r ≡ min a b ⌝ }
+{
+    if a < b {
+        return a;
+    }
+    b
+}
+
+// The shares of a meeting: the smaller of what the giver, whose account holds `held`, has left to give, and what the
+// receiver still wants. Most records want nothing, so that is looked at first.
+pub fn size_of(day: u16, security: u8, held: u64, giver: Position, receiver: Position) -> u64
+    ensures { λ r. ⌜ r ≡ min (min (owes day security giver) held) (wants day security receiver) ⌝ }
+{
+    let wanted = wants_of(day, security, receiver);
+    if wanted == 0 {
+        return 0;
+    }
+    let owed = owes_of(day, security, giver);
+    smaller(smaller(owed, held), wanted)
+}

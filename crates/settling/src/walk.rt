@@ -1,0 +1,79 @@
+// The search through givers and receivers (document 01, "Settlement run"): it stops at once when nothing is left to give.
+use crate::moving::charge_both;
+use crate::moving::move_shares;
+use crate::sides::holding_place;
+use crate::sides::owes_of;
+use crate::sides::size_of;
+use parts::rest_of;
+use rules::Book;
+use rules::Position;
+use units::Mils;
+use units::Shares;
+ghost use mathlib.Core.Path.{_≡_};
+ghost use Prim.Native.Nat.{_≤_};
+ghost use Rattle.laws.specs.Walk.{walked};
+ghost use Rattle.settling.specs.Loops.{walking, WalkAsks};
+
+// The tables when the walk is over, and what is left to give.
+pub struct Walked {
+    pub positions: [Position; 1024],
+    pub holdings: [u64; 2048],
+    pub charges: [Mils; 256],
+    pub left: u64,
+}
+
+// Nothing is done yet.
+fn unwalked(k: Book, all: u64) -> Walked
+    ensures { λ r. ⌜ (r .positions ≡ k .positions) × (r .holdings ≡ k .holdings) × (r .charges ≡ k .charges) × (r .left ≡ all) ⌝ }
+{
+    let positions = k.positions;
+    let holdings = k.holdings;
+    let charges = k.charges;
+    Walked {
+        positions: positions,
+        holdings: holdings,
+        charges: charges,
+        left: all,
+    }
+}
+
+// Givers by ascending number, each through the receivers by ascending number, while some of `all` is left to give.
+pub fn walk(k: Book, security: u8, all: u64) -> Walked
+    requires { ⌜ WalkAsks k security all ⌝ }
+    ensures { λ r. ⌜ (walking (k .records) all r ≡ walked k security) × (r .left ≤ all) ⌝ }
+{
+    let n = k.records as usize;
+    let codes = k.currency;
+    let mut t = unwalked(k, all);
+    let mut g: usize = 0;
+    'givers: while g < n {
+        if owes_of(k.day, security, t.positions[g]) == 0 {
+            g += 1;
+            continue 'givers;
+        }
+        let mut r: usize = 0;
+        'receivers: while r < n {
+            if t.left == 0 {
+                break 'givers;
+            }
+            let giver = t.positions[g];
+            let receiver = t.positions[r];
+            let from = holding_place(giver, security);
+            let size = size_of(k.day, security, t.holdings[from], giver, receiver);
+            if size > 0 {
+                let part = Shares::of(false, size);
+                let to = holding_place(receiver, security);
+                t.positions[g] = rest_of(giver, part);
+                t.positions[r] = rest_of(receiver, part);
+                move_shares(&mut t.holdings, from, to, size);
+                let charges = t.charges;
+                let charged = charge_both(charges, codes, giver, receiver, part);
+                t.charges = charged;
+                t.left -= size;
+            }
+            r += 1;
+        }
+        g += 1;
+    }
+    t
+}
