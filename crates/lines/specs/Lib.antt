@@ -1,0 +1,4 @@
+pub mod Digits
+pub mod LineWords
+pub mod Placed
+pub mod Counting
