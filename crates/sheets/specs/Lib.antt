@@ -1,0 +1,2 @@
+-- The whole sheet as one call.
+pub mod Sheets
