@@ -2,3 +2,4 @@
 pub mod Asked
 pub mod MarkOrders
 pub mod Marked
+pub mod Joint
