@@ -1,6 +1,6 @@
 // Each call that alters the book, on lent bytes that are known to be a sound book (document 01, the rules of each call;
-// refusals above 1). `house` makes the test for soundness in front of them; in a file it is made once, for every call
-// leaves a sound book.
+// refusals above 1). `house` makes the test for soundness in front of them; a file needs none, for its create makes a
+// sound book and every call leaves one.
 mod entries;
 mod holdings;
 mod rolls;
