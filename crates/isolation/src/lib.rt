@@ -1,0 +1,1 @@
+// Isolation, extended: which calls leave what marks answer for an account. Theorems, no code.
