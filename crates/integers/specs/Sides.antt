@@ -118,7 +118,7 @@ nat-le (pos a) (negsuc b) h = absurd (omega arith)
 nat-le (negsuc a) (pos b) h = tt
 nat-le (negsuc a) (negsuc b) h = le→leb b a (omega arith)
 
-pub lt-nat : (x y : ℤ) → T (ltZ x y) → up x + dn y < up y + dn x
+lt-nat : (x y : ℤ) → T (ltZ x y) → up x + dn y < up y + dn x
 lt-nat (pos a) (pos b) t = omega (arith, ltb→lt a b t)
 lt-nat (pos a) (negsuc b) t = absurd t
 lt-nat (negsuc a) (pos b) t = omega arith

@@ -1,12 +1,11 @@
--- Signs: an integer is its sign and its size; what a test of the sign or of an order tells; toward zero by k units.
-use mathlib.Core.Path.{_≡_, refl, sym, ap, _∙_, subst}
+-- Signs: an integer is its sign and its size; what a test of the sign tells; toward zero by k units.
+use mathlib.Core.Path.{_≡_, refl, ap, _∙_, subst}
 use mathlib.Core.Bool.{Bool, true, false, not}
 use Prim.Native.Nat.{ℕ, zero, suc, _+_, _-_, _≤_, _<_}
 use native.Mathlib.Omega.{arith}
 use lib.Dec.{T}
 use lib.IntN.{ℤ, pos, negsuc, negℤ, natAbs, _+ℤ_, _-ℤ_}
-use lib.Signed.{ltZ, _≤ℤ_, _<ℤ_, ltZ-no}
-use Rattle.integers.specs.Sides.{up, dn, lt-nat, le-sides}
+use Rattle.integers.specs.Sides.{up, dn}
 use Rattle.integers.specs.Linear.{zlin}
 use Rattle.integers.specs.Sizes.{natAbs-neg}
 
@@ -32,27 +31,6 @@ yes-neg (negsuc n) h = refl
 pub no-neg : (x : ℤ) → dn x ≤ up x → isNegative x ≡ false
 no-neg (pos n) h = refl
 no-neg (negsuc n) h = absurd (omega arith)
-
--- ---- a comparison: `ltZ x y` is the value of the code's `x < y`
-pub below-yes : (x y : ℤ) → ltZ x y ≡ true → up x + dn y < up y + dn x
-below-yes x y e = lt-nat x y (subst T (sym e) tt)
-
-pub below-no : (x y : ℤ) → ltZ x y ≡ false → up y + dn x ≤ up x + dn y
-below-no x y e = le-sides y x (ltZ-no (subst (λ (b : Bool). T (not b)) (sym e) tt))
-
-is-true : (t : Bool) → T t → t ≡ true
-is-true true h = refl
-is-true false h = absurd h
-
-is-false : (t : Bool) → (T t → ⊥) → t ≡ false
-is-false true h = absurd (h tt)
-is-false false h = refl
-
-pub yes-below : (x y : ℤ) → x <ℤ y → ltZ x y ≡ true
-yes-below x y h = is-true (ltZ x y) (h .lt)
-
-pub no-below : (x y : ℤ) → y ≤ℤ x → ltZ x y ≡ false
-no-below x y h = is-false (ltZ x y) (λ t. absurd (omega (arith, lt-nat x y t, le-sides y x h)))
 
 -- the integer with a sign and a size
 abbrev pub signed : Bool → ℕ → ℤ
@@ -99,19 +77,11 @@ towardZero-size x k = natAbs-signed (isNegative x) (natAbs x - k)
 pub towardZero-all : (x : ℤ) (k : ℕ) → natAbs x ≤ k → towardZero x k ≡ pos 0
 towardZero-all x k h = let e : natAbs x - k ≡ 0 = omega arith in rw e (signed-zero (isNegative x))
 
-pub towardZero-none : (x : ℤ) → towardZero x 0 ≡ x
-towardZero-none x = let e : natAbs x - 0 ≡ natAbs x = omega arith in rw e (signed-abs x)
-
 pub towardZero-diff : (x : ℤ) (k : ℕ) → k ≤ natAbs x → towardZero x k ≡ x -ℤ signed (isNegative x) k
 towardZero-diff x k h = signed-diff (isNegative x) (natAbs x) k h ∙ ap (λ (z : ℤ). z -ℤ signed (isNegative x) k) (signed-abs x)
 
 pub towardZero-sign : (x : ℤ) (k : ℕ) → k < natAbs x → isNegative (towardZero x k) ≡ isNegative x
 towardZero-sign x k h = isNegative-signed (isNegative x) (natAbs x - k) (omega arith)
-
-pub towardZero-twice : (x : ℤ) (j k : ℕ) → j < natAbs x → towardZero (towardZero x j) k ≡ towardZero x (j + k)
-towardZero-twice x j k h =
-    let e : natAbs x - j - k ≡ natAbs x - (j + k) = omega arith in
-    rw (towardZero-sign x j h, towardZero-size x j, e)
 
 -- two integers of opposite signs, each taken toward 0 by k: their sum stays
 pub towardZero-pair : (x y : ℤ) (k : ℕ) → isNegative y ≡ not (isNegative x) → k ≤ natAbs x → k ≤ natAbs y → towardZero x k +ℤ towardZero y k ≡ x +ℤ y

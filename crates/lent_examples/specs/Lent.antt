@@ -137,13 +137,17 @@ unfolding everything closing intraday
 from-intraday = refl
 
 -- tables that begin at byte 5 of region 1 and byte 9 of region 2
-closing-spot : priceSpot intraday 0 (1, 5) (2, 9) ≡ (2, 9)
-unfolding everything intraday
+closing-spot : priceSpot intraday closing 0 (1, 5) (2, 9) ≡ (2, 9)
+unfolding everything closing intraday
 closing-spot = refl
 
-intraday-spot : priceSpot intraday 1 (1, 5) (2, 9) ≡ (1, 9)
-unfolding everything intraday
+intraday-spot : priceSpot intraday closing 1 (1, 5) (2, 9) ≡ (1, 9)
+unfolding everything closing intraday
 intraday-spot = refl
+
+no-spot : priceSpot intraday closing 31 (1, 5) (2, 9) ≡ (1, 5)
+unfolding everything closing intraday
+no-spot = refl
 
 nothing-there : pricePart intraday closing 31 ≡ []
 unfolding everything closing intraday

@@ -36,7 +36,7 @@ stays : wholeAnswers room example (replicate 71 7) ≡ replicate 71 7
 unfolding everything room
 stays = refl
 
--- ── the sheet: 104 bytes of file, 101 of sheet ──
+-- ── the sheet: 104 bytes of file, 102 of sheet ──
 
 size : sheetAnswer room example (replicate 103 7) ∷ sheetSize room example (replicate 103 7) ∷ length sheet ∷ [] ≡ 0 ∷ length sheet ∷ length sheet ∷ []
 unfolding everything room

@@ -27,6 +27,10 @@ pub record Terms : Type 0 where
   pub rates : List ℕ
   pub haircuts : List ℕ
 
+-- as they are lent: the two tables, rates and haircuts by currency
+abbrev pub terms : List ℕ → List ℕ → List ℕ → List ℕ → Terms
+terms intraday closing rates haircuts = record { intraday = intraday; closing = closing; rates = rates; haircuts = haircuts }
+
 unfoldable pub rateOf : Terms → ℕ → ℕ
 rateOf t c = getD (t .rates) c 0
 

@@ -53,9 +53,13 @@ unfoldable pub pricePart : List ℕ → List ℕ → ℕ → List ℕ
 pricePart intraday closing s =
     cond (eqb (priceAnswer intraday closing s) 0) (take 4 (drop (s * 4) (tableUsed intraday closing s))) []
 
--- where the part of an accepted question stands, if the tables begin at a and b (a spot is a region of memory and a byte in it)
+-- Where the part stands, if the tables begin at a and b (a spot is a region of memory and a byte in it). The empty part of a refused
+-- question stands at the front of the intraday table.
 abbrev pub Spot : Type 0
 Spot = ℕ × ℕ
 
-unfoldable pub priceSpot : List ℕ → ℕ → Spot → Spot → Spot
-priceSpot intraday s a b = cond (fromClosing intraday s) (b .0, s * 4 + b .1) (a .0, s * 4 + a .1)
+unfoldable pub entrySpot : List ℕ → ℕ → Spot → Spot → Spot
+entrySpot intraday s a b = cond (fromClosing intraday s) (b .0, s * 4 + b .1) (a .0, s * 4 + a .1)
+
+unfoldable pub priceSpot : List ℕ → List ℕ → ℕ → Spot → Spot → Spot
+priceSpot intraday closing s a b = cond (eqb (priceAnswer intraday closing s) 0) (entrySpot intraday s a b) a
