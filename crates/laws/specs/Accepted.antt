@@ -13,7 +13,7 @@ use Rattle.rules.specs.Book.{unlisted, listOf, heldBy}
 use Rattle.rules.specs.Layout.{bookLength, bookOf}
 use Rattle.rules.specs.Sound.{totalHeld, validTrade, isCode, notSound, sound}
 use Rattle.rules.specs.Trades.{used, stands, noAccount, noSecurity, badAccounts, badSecurity, badQuantity, badPrice, sameAccount}
-use Rattle.rules.specs.Calls.{Call, enter, amend, exclude, deposit, withdraw, badDeposit, fieldTests, holdingTests, tests, answerSound, answerBytes, createTests, createAnswer}
+use Rattle.rules.specs.Calls.{Call, enter, amend, deposit, withdraw, badDeposit, fieldTests, holdingTests, tests, answerSound, answerBytes, createTests, createAnswer}
 use Rattle.rules.specs.declared.Trade.{Trade}
 use Rattle.rules.specs.declared.Book.{Book}
 use Rattle.laws.specs.Cases.{both-hold, neither}
@@ -60,10 +60,6 @@ unfolding answerSound tests
 may-amend k t e =
     let f = fields-passed k t _ e in
     record { valid = f .0; standing = not-false (stands (t .number) (listOf k)) (passed (not (stands (t .number) (listOf k))) 7 [] (f .1) .0) }
-
-pub may-exclude : (k : Book) (n : ℕ) → answerSound k (exclude n) ≡ 0 → stands n (listOf k) ≡ true
-unfolding answerSound tests
-may-exclude k n e = not-false (stands n (listOf k)) (passed (not (stands n (listOf k))) 7 [] e .0)
 
 -- ── holdings ──
 

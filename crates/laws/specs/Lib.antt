@@ -40,6 +40,7 @@ pub mod KeptLists
 pub mod Totals
 pub mod KeptHoldings
 pub mod Empty
+pub mod Blanks
 -- the money at stake, account by account
 pub mod Stakes
 -- the day roll: records lessened, who faces whom, one newly due record against the older ones, all of them
@@ -58,6 +59,7 @@ pub mod NetListed
 pub mod Rolling
 pub mod RollKept
 pub mod RollWorth
+pub mod QuietRoll
 -- what a settlement run keeps: shares, holdings, money, order; and that it leaves a sound book
 pub mod MovedTotals
 pub mod RunKeeps
@@ -76,3 +78,6 @@ pub mod ReadBack
 -- the call file and the sheet
 pub mod Files
 pub mod Decimals
+-- answers: the numbers and values of those that are enums; a refused call alters nothing
+pub mod EnumAnswers
+pub mod Refused

@@ -1,62 +1,23 @@
 -- The table of the list: behind the list its rows are zero, so a row set or replaced leaves the list and zeros behind it.
-use mathlib.Core.Path.{_≡_, refl, ap, ap₂, _∙_}
-use mathlib.Core.Bool.{true, cond, _&&_}
+use mathlib.Core.Path.{_≡_, refl, ap, _∙_}
+use mathlib.Core.Bool.{true, cond}
 use mathlib.Core.List.{List, [], _∷_, _++_, map}
-use Prim.Native.Nat.{ℕ, zero, suc, _+_, _-_, _<_, _≤_}
+use Prim.Native.Nat.{ℕ, zero, suc, _+_, _-_, _<_}
 use native.Mathlib.Nat.{le-of-suc-le-suc}
 use native.Mathlib.Numerals.{add-one}
 use native.Mathlib.Omega.{arith}
-use lib.Dec.{eqb, leb}
+use lib.Dec.{eqb}
 use lib.ListN.{length, getD, take, drop, set, replicate, length-append, length-map, length-drop}
 use lib.Seq.{length-take-le}
-use borrow.Author.Tests.{eqb-true, leb-true}
-use Rattle.rules.specs.Words.{all}
 use Rattle.rules.specs.Bounds.{mostTrades}
 use Rattle.rules.specs.Book.{noTrade, listOf, withList}
-use Rattle.rules.specs.Sound.{zeroFields, distinct, tradesFit}
+use Rattle.rules.specs.Sound.{tradesFit}
 use Rattle.rules.specs.Trades.{entered, replaced}
 use Rattle.rules.specs.declared.Trade.{Trade}
 use Rattle.rules.specs.declared.Book.{Book}
 use Rattle.rules.specs.Calls.{enter, after}
 use Rattle.book.specs.Changing.{withTable}
-use Rattle.laws.specs.Cases.{both-hold}
-use Rattle.laws.specs.Listed.{listable}
-
--- ── rows that are zero ──
-
-zeros : (n b s c q p : ℕ) → n ≡ 0 → b ≡ 0 → s ≡ 0 → c ≡ 0 → q ≡ 0 → p ≡ 0
-    → _≡_ {A = Trade} (record { number = n; buyer = b; seller = s; security = c; quantity = q; price = record { 0 = p } }) noTrade
-zeros n b s c q p en eb es ec eq ep = rw (en, eb, es, ec, eq, ep)
-
-blank-is : (t : Trade) → eqb (t .number) 0 && zeroFields t ≡ true → t ≡ noTrade
-unfolding zeroFields
-blank-is t e =
-    let n = both-hold (eqb (t .number) 0) _ e in
-    let b = both-hold (eqb (t .buyer) 0) _ (n .1) in
-    let s = both-hold (eqb (t .seller) 0) _ (b .1) in
-    let c = both-hold (eqb (t .security) 0) _ (s .1) in
-    let q = both-hold (eqb (t .quantity) 0) (eqb (t .price .0) 0) (c .1) in
-    zeros (t .number) (t .buyer) (t .seller) (t .security) (t .quantity) (t .price .0)
-    (eqb-true _ _ (n .0)) (eqb-true _ _ (b .0)) (eqb-true _ _ (s .0)) (eqb-true _ _ (c .0)) (eqb-true _ _ (q .0)) (eqb-true _ _ (q .1))
-
-blanks-are : (l : List Trade) → all (λ t. eqb (t .number) 0 && zeroFields t) l ≡ true → l ≡ replicate (length l) noTrade
-unfolding all
-blanks-are [] e = refl
-blanks-are (t ∷ l) e =
-    let p = both-hold (eqb (t .number) 0 && zeroFields t) _ e in
-    ap₂ (λ (x : Trade) (xs : List Trade). x ∷ xs) (blank-is t (p .0)) (blanks-are l (p .1))
-
-module _ (k : Book) (fit : tradesFit k ≡ true) where
-  pub few : k .entries ≤ mostTrades
-  unfolding tradesFit
-  few = leb-true (k .entries) mostTrades (both-hold (leb (k .entries) mostTrades) _ fit .0)
-
-  rest-blank : drop (k .entries) (k .trades) ≡ replicate (length (drop (k .entries) (k .trades))) noTrade
-  unfolding tradesFit
-  rest-blank =
-      let x = both-hold (leb (k .entries) mostTrades) _ fit in
-      let y = both-hold (distinct (map (λ t. t .number) (listOf k))) _ (x .1) in
-      blanks-are (drop (k .entries) (k .trades)) (both-hold (all (listable k) (listOf k)) _ (y .1) .1)
+use Rattle.laws.specs.Blanks.{behind-list, entries-few}
 
 -- ── one more row ──
 
@@ -117,7 +78,7 @@ module _ (k : Book) (long : length (k .trades) ≡ mostTrades) (fit : tradesFit 
   entered-is t h =
       list-is k (take (k .entries) (k .trades) ++ (t ∷ [])) (k .entries + 1) (set (k .trades) (k .entries) t)
       (omega (arith, length-append (take (k .entries) (k .trades)) (t ∷ []), length-take-le (k .entries) (k .trades) (omega arith)))
-      (set-behind noTrade t (k .trades) (k .entries) (mostTrades - (k .entries + 1)) (omega arith) (rest-blank k fit))
+      (set-behind noTrade t (k .trades) (k .entries) (mostTrades - (k .entries + 1)) (omega arith) (behind-list k fit))
 
   replaced-is : (n : ℕ) (t : Trade) (i : ℕ) (rows : List Trade) → i ≡ k .entries
       → rows ≡ map (λ u. cond (eqb (u .number) n) t u) (take i (k .trades)) ++ drop i (k .trades)
@@ -137,8 +98,8 @@ module _ (k : Book) (long : length (k .trades) ≡ mostTrades) (fit : tradesFit 
       let g : Trade → Trade = λ u. cond (eqb (u .number) n) t u in
       let w : length (drop (k .entries) (k .trades)) ≡ mostTrades - k .entries = omega (arith, length-drop (k .entries) (k .trades)) in
       list-is k (map g l) (k .entries) rows
-      (omega (arith, length-map l g, length-take-le (k .entries) (k .trades) (omega (arith, few k fit))))
-      (rw (e) at f ∙ ap (λ (r : List Trade). map g l ++ r) (rest-blank k fit ∙ ap (λ (j : ℕ). replicate j noTrade) w))
+      (omega (arith, length-map l g, length-take-le (k .entries) (k .trades) (omega (arith, entries-few k fit))))
+      (rw (e) at f ∙ ap (λ (r : List Trade). map g l ++ r) (behind-list k fit ∙ ap (λ (j : ℕ). replicate j noTrade) w))
 
 -- ── as the code has it: the count and the rows that were read, and what was written ──
 

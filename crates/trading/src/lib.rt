@@ -7,8 +7,6 @@ mod refusals;
 pub use entry::put_amended;
 pub use entry::put_entered;
 pub use entry::put_excluded;
-pub use list::is_standing;
-pub use list::is_used;
 pub use refusals::amend_refusal;
 pub use refusals::enter_refusal;
 pub use refusals::exclude_refusal;

@@ -13,7 +13,7 @@ ghost use Rattle.rules.specs.Layout.{bookLength, bookOf};
 ghost use Rattle.rules.specs.Trades.{isExcluded, used, stands};
 
 // An excluded trade keeps its number, so that one counts too: a number is used once a day.
-pub fn is_used(b: &[u8], number: u16) -> bool
+pub(crate) fn is_used(b: &[u8], number: u16) -> bool
     requires { ⌜ (length (now b) ≡ bookLength) × (bookOf (now b) .entries ≤ mostTrades) ⌝ }
     ensures { λ r. ⌜ r ≡ used number (listOf (bookOf (now (b .entry)))) ⌝ }
 {
@@ -40,7 +40,7 @@ fn stands_as(t: Trade, number: u16) -> bool
 }
 
 // In the list and not excluded.
-pub fn is_standing(b: &[u8], number: u16) -> bool
+pub(crate) fn is_standing(b: &[u8], number: u16) -> bool
     requires { ⌜ (length (now b) ≡ bookLength) × (bookOf (now b) .entries ≤ mostTrades) ⌝ }
     ensures { λ r. ⌜ r ≡ stands number (listOf (bookOf (now (b .entry)))) ⌝ }
 {

@@ -4,7 +4,8 @@ use mathlib.Core.Path.{ap, _∙_}
 use native.Mathlib.Omega.{arith}
 use Rattle.rules.specs.Layout.{bookOf, bytesOf}
 use Rattle.book.specs.Views.{trades-long}
-use Rattle.trading.specs.Tables.{few, replaced-table}
+use Rattle.laws.specs.Blanks.{entries-few}
+use Rattle.trading.specs.Tables.{replaced-table}
 use Rattle.trading.proofs.entry.put_replaced.Statement.{statement}
 use Rattle.trading.proofs.entry.put_replaced.Tie as tie
 
@@ -18,7 +19,7 @@ cast-renewed-rows : tie.Need-cast-renewed-rows
 cast-renewed-rows c = search needs
 
 renewed-rows-requires : tie.Need-renewed-rows-requires
-renewed-rows-requires c κs = omega (arith, c .before .before .entries-at .ensures, few (bookOf (c .before .before .before .before .before .args .b .now)) (c .before .before .before .before .before .pre .1))
+renewed-rows-requires c κs = omega (arith, c .before .before .entries-at .ensures, entries-few (bookOf (c .before .before .before .before .before .args .b .now)) (c .before .before .before .before .before .pre .1))
 
 put-list-requires : tie.Need-put-list-requires
 put-list-requires c κs = search needs
