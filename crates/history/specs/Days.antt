@@ -1,7 +1,7 @@
 -- A day of a history: the roll behind it reads its accepted deposits, withdrawals and runs and its surviving trades, and nothing else (demand 3).
 use mathlib.Core.Path.{_≡_, refl, sym, ap, ap₂, _∙_}
 use mathlib.Core.Bool.{true, false}
-use mathlib.Core.List.{List, [], _∷_, map, append-nil}
+use mathlib.Core.List.{List, [], _∷_, map, append-nil, Perm}
 use Prim.Native.Nat.{ℕ}
 use native.Mathlib.Omega.{arith}
 use lib.ListN.{length}
@@ -19,7 +19,7 @@ use Rattle.history.specs.Histories.{made, logOf, isOther, rolls, others,
 use Rattle.history.specs.Steps.{Good, answer-sound, made-good}
 use Rattle.history.specs.Rest.{bare, with-bare, whole, few, apart, all-listable, list-long}
 use Rattle.history.specs.Alike.{roll-alike}
-use Rattle.history.specs.Survivors.{numbersOf, nets-survivors, survivors-live, survivors-few, survivors-all, survivors-again, survivors-distinct}
+use Rattle.history.specs.Survivors.{numbersOf, nets-survivors, nets-order, survivors-live, survivors-few, survivors-all, survivors-again, survivors-distinct}
 use Rattle.history.specs.Logs.{made-append, log-append}
 use Rattle.history.specs.Following.{others-rest, others-list, others-log}
 use Rattle.history.specs.Entering.{Enterable, Entered, all-entered}
@@ -36,7 +36,7 @@ no-others (t ∷ ts) = no-others ts
 
 -- ── rolls that are answered alike, and leave the same book ──
 
-same-roll : (k j : Book) → Good k → Good j → bare k ≡ bare j → ((due : ℕ) → nets due (listOf k) ≡ nets due (listOf j)) → SameRoll k j
+pub same-roll : (k j : Book) → Good k → Good j → bare k ≡ bare j → ((due : ℕ) → nets due (listOf k) ≡ nets due (listOf j)) → SameRoll k j
 same-roll k j g h e f =
     let r = roll-alike k j e f in
     (answer-sound k roll (g .sound) ∙ r .0 ∙ sym (answer-sound j roll (h .sound)), r .1)
@@ -114,11 +114,13 @@ module _ (k : Book) (g : Good k) (morning : listOf k ≡ []) (cs : List Call) (d
   pub survivors-once : distinct (numbersOf us) ≡ true
   survivors-once = survivors-distinct (listOf end) (apart end end-good)
 
--- ── any two days with the same deposits, withdrawals and runs, and the same survivors ──
+-- ── any two days with the same deposits, withdrawals and runs, and the same survivors in any order ──
 
 pub any-roll : (k : Book) → Good k → (cs ds : List Call) → rolls k cs ≡ false → rolls k ds ≡ false → others k cs ≡ others k ds
-    → survivors (listOf (made k cs)) ≡ survivors (listOf (made k ds)) → SameRoll (made k cs) (made k ds)
-any-roll k g cs ds c d e f =
+    → Perm (survivors (listOf (made k cs))) (survivors (listOf (made k ds))) → SameRoll (made k cs) (made k ds)
+any-roll k g cs ds c d e p =
     same-roll (made k cs) (made k ds) (made-good k cs g) (made-good k ds g)
     (sym (others-rest k g cs c) ∙ ap (λ (os : List Call). bare (made k os)) e ∙ others-rest k g ds d)
-    (λ due. sym (nets-survivors due (listOf (made k cs))) ∙ ap (nets due) f ∙ nets-survivors due (listOf (made k ds)))
+    (λ due. let us = survivors (listOf (made k cs)) in
+    let vs = survivors (listOf (made k ds)) in
+    sym (nets-survivors due (listOf (made k cs))) ∙ nets-order due us vs p ∙ nets-survivors due (listOf (made k ds)))

@@ -103,7 +103,7 @@ module _ (j : Book) (g : Good j) (u : Trade) (us : List Trade) (f : Enterable j 
   abbrev next : Book
   next = after j (enter u)
 
-  next-rest : bare next ≡ bare j
+  pub next-rest : bare next ≡ bare j
   unfolding after
   next-rest = bare-with j _
 
@@ -111,7 +111,7 @@ module _ (j : Book) (g : Good j) (u : Trade) (us : List Trade) (f : Enterable j 
   unfolding after entered
   next-list = listed j _
 
-  next-behind : listOf next ++ us ≡ listOf j ++ (u ∷ us)
+  pub next-behind : listOf next ++ us ≡ listOf j ++ (u ∷ us)
   next-behind = ap (λ (l : List Trade). l ++ us) next-list ∙ append-assoc (listOf j) (u ∷ []) us
 
   first-lives : (live u ≡ true) × (all live us ≡ true)
@@ -127,13 +127,13 @@ module _ (j : Book) (g : Good j) (u : Trade) (us : List Trade) (f : Enterable j 
       let v = live-valid j u (first-lives .0) (first-sound .0) in
       enters j u (v .1) (v .0) (unused (listOf j) u us (f .apart)) (omega (arith, f .room, list-long j g))
 
-  entry-taken : accepted j (enter u) ≡ true
+  pub entry-taken : accepted j (enter u) ≡ true
   entry-taken = eq-eqb _ 0 (answer-sound j (enter u) (g .sound) ∙ entry)
 
-  next-good : Good next
+  pub next-good : Good next
   next-good = after-good j g (enter u) entry
 
-  next-enterable : Enterable next us
+  pub next-enterable : Enterable next us
   next-enterable =
       record {
         lives = first-lives .1;

@@ -24,7 +24,7 @@ module _ (k j : Book) (g : Good k) (h : Good j) (e : bare k ≡ bare j) (c : Cal
       answer-sound k c (g .sound) ∙ sym (other-answer k c o) ∙ ap (λ (b : Book). answerSound b c) e ∙ other-answer j c o
       ∙ sym (answer-sound j c (h .sound))
 
-  alike-rest : bare (after k c) ≡ bare (after j c)
+  pub alike-rest : bare (after k c) ≡ bare (after j c)
   alike-rest = sym (other-rest k c o) ∙ ap (λ (b : Book). bare (after b c)) e ∙ other-rest j c o
 
 -- ── the calls os, made from j, follow the day cs made from k ──

@@ -68,6 +68,12 @@ survivors ts = keep (λ t. not (isExcluded t)) ts
 unfoldable pub tidy : Book → List Call → List Call
 tidy k cs = others k cs ++ map enter (survivors (listOf (made k cs)))
 
+-- the calls os, and the entries of the trades us, each in their order, however they lie between each other
+pub data Interleaved : List Call → List Trade → List Call → Type 0 where
+  nothing : Interleaved [] [] []
+  next-call : {c : Call} {os ds : List Call} {us : List Trade} → Interleaved os us ds → Interleaved (c ∷ os) us (c ∷ ds)
+  next-entry : {t : Trade} {os ds : List Call} {us : List Trade} → Interleaved os us ds → Interleaved os (t ∷ us) (enter t ∷ ds)
+
 -- ── the last accepted form of a trade, by the log alone ──
 
 unfoldable pub formAfter : ℕ → Option Trade → Call → Option Trade

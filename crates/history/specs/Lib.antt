@@ -10,10 +10,12 @@ pub mod Logs
 pub mod Rest
 pub mod Alike
 pub mod Survivors
--- the same deposits, withdrawals and runs again; the survivors entered; the tidy day; the last accepted forms; many days
+-- the same deposits, withdrawals and runs again; the survivors entered; the tidy day; the survivors in any order, between the other calls; the last accepted forms; many days
 pub mod Following
 pub mod Entering
 pub mod Days
+pub mod Orders
+pub mod Interleaving
 pub mod Forms
 pub mod ManyDays
 -- zero totals, holdings

@@ -1,5 +1,5 @@
--- One call of a history: accepted or refused; and every book of a history is sound, with tables of their lengths.
-use mathlib.Core.Path.{_≡_, sym, _∙_, subst}
+-- One call of a history: accepted or refused; no call alters the currency table; and every book of a history is sound, with tables of their lengths.
+use mathlib.Core.Path.{_≡_, refl, sym, ap, _∙_, subst}
 use mathlib.Core.Bool.{true, false}
 use mathlib.Core.List.{List, [], _∷_}
 use Prim.Native.Nat.{ℕ}
@@ -7,8 +7,10 @@ use lib.ListN.{length}
 use borrow.Author.Tests.{eqb-true}
 use Rattle.rules.specs.Words.{all, first}
 use Rattle.rules.specs.Bounds.{securities}
-use Rattle.rules.specs.Book.{emptyBook}
+use Rattle.rules.specs.Book.{emptyBook, withOpen, withList, withHoldings, withCharges, withDay}
 use Rattle.rules.specs.Sound.{isCode, sound}
+use Rattle.rules.specs.Roll.{uncharged, netted, emptied, nextDay, offset, rolled}
+use Rattle.rules.specs.Run.{settled}
 use Rattle.rules.specs.Calls.{Call, enter, amend, exclude, roll, deposit, withdraw, run, after, answer, answerSound}
 use Rattle.rules.specs.CallFile.{left}
 use Rattle.rules.specs.declared.Book.{Book}
@@ -43,6 +45,29 @@ answer-sound k c e = rw e
 
 pub took : (k : Book) (c : Call) → Good k → accepted k c ≡ true → answerSound k c ≡ 0
 took k c g e = sym (answer-sound k c (g .sound)) ∙ eqb-true (answer k c) 0 e
+
+-- ── the currency table: no call alters it ──
+
+pub after-currency : (k : Book) (c : Call) → after k c .currency ≡ k .currency
+unfolding after withList withHoldings rolled offset nextDay emptied netted uncharged settled withOpen withCharges withDay
+after-currency k (enter t) = refl
+after-currency k (amend t) = refl
+after-currency k (exclude n) = refl
+after-currency k roll = refl
+after-currency k (deposit a s q) = refl
+after-currency k (withdraw a s q) = refl
+after-currency k (run s) = refl
+
+pub left-currency : (k : Book) (c : Call) → left k c .currency ≡ k .currency
+left-currency k c =
+    by-test (accepted k c)
+    (λ e. ap (λ (m : Book). m .currency) (left-yes k c e) ∙ after-currency k c)
+    (λ e. ap (λ (m : Book). m .currency) (left-no k c e))
+
+pub made-currency : (k : Book) (cs : List Call) → made k cs .currency ≡ k .currency
+unfolding made
+made-currency k [] = refl
+made-currency k (c ∷ cs) = made-currency (left k c) cs ∙ left-currency k c
 
 -- ── an accepted call leaves a good book, and so does any ──
 

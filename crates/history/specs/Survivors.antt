@@ -1,14 +1,14 @@
 -- The trades of a list that are not excluded: they have the nets of the whole list, their numbers are distinct, and they can be entered.
 use mathlib.Core.Path.{_≡_, refl, sym, ap, _∙_}
 use mathlib.Core.Bool.{Bool, true, false, cond, not}
-use mathlib.Core.List.{List, [], _∷_, map}
+use mathlib.Core.List.{List, [], _∷_, map, Perm}
 use Prim.Native.Nat.{ℕ, _≤_}
 use native.Mathlib.Nat.{zero-mul}
 use lib.Dec.{eqb}
 use lib.ListN.{length}
 use lib.IntN.{pos, _-ℤ_}
 use borrow.Author.Tests.{eqb-true, not-false}
-use Rattle.integers.specs.Sums.{sumBy}
+use Rattle.integers.specs.Sums.{sumBy, sumBy-perm}
 use Rattle.rules.specs.Words.{all, keep, each}
 use Rattle.rules.specs.Bounds.{everyAccount, everySecurity}
 use Rattle.rules.specs.Trades.{amountOf, isExcluded}
@@ -17,7 +17,7 @@ use Rattle.rules.specs.Nets.{bought, sold, net, netOf, tradesOf, nets}
 use Rattle.rules.specs.declared.Trade.{Trade}
 use Rattle.laws.specs.Cases.{by-test, both-hold, and-hold}
 use Rattle.laws.specs.Keeping.{keep-yes, keep-no, keep-none, keep-all, keep-passes, keep-length, keep-swap, keep-whole}
-use Rattle.laws.specs.Adding.{sumBy-kept}
+use Rattle.laws.specs.Adding.{sumBy-keep, sumBy-kept}
 use Rattle.laws.specs.NetLaws.{flow, netOf-own}
 use Rattle.history.specs.Histories.{survivors}
 
@@ -59,12 +59,32 @@ netOf-survivors : (due : ℕ) (ts : List Trade) (a s : ℕ) → netOf due (survi
 unfolding netOf
 netOf-survivors due ts a s = rw (net-survivors (λ t. t .quantity) shares-idle ts a s, net-survivors amountOf amount-idle ts a s)
 
-pub nets-survivors : (due : ℕ) (ts : List Trade) → nets due (survivors ts) ≡ nets due ts
+-- lists with the same net for each account and security
+nets-same : (due : ℕ) (ts us : List Trade) → ((a s : ℕ) → netOf due ts a s ≡ netOf due us a s) → nets due ts ≡ nets due us
 unfolding nets
-nets-survivors due ts =
-    let same : (a s : ℕ) → netOf due (tradesOf a (survivors ts)) a s ≡ netOf due (tradesOf a ts) a s =
-    λ a s. netOf-own due (survivors ts) a s ∙ netOf-survivors due ts a s ∙ sym (netOf-own due ts a s) in
+nets-same due ts us h =
+    let same : (a s : ℕ) → netOf due (tradesOf a ts) a s ≡ netOf due (tradesOf a us) a s =
+    λ a s. netOf-own due ts a s ∙ h a s ∙ sym (netOf-own due us a s) in
     λ i. each (λ a. keep isPosition (map (λ s. same a s i) everySecurity)) everyAccount
+
+pub nets-survivors : (due : ℕ) (ts : List Trade) → nets due (survivors ts) ≡ nets due ts
+nets-survivors due ts = nets-same due (survivors ts) ts (netOf-survivors due ts)
+
+-- the same trades in another order have the same nets
+net-order : (v : Trade → ℕ) (ts us : List Trade) → Perm ts us → (a s : ℕ) → net v ts a s ≡ net v us a s
+unfolding net
+net-order v ts us p a s =
+    let inSecurity : Trade → Bool = λ t. eqb (t .security) s in
+    sumBy-keep (flow v a) inSecurity ts
+    ∙ sumBy-perm (λ t. cond (inSecurity t) (flow v a t) (pos 0)) ts us p
+    ∙ sym (sumBy-keep (flow v a) inSecurity us)
+
+netOf-order : (due : ℕ) (ts us : List Trade) → Perm ts us → (a s : ℕ) → netOf due ts a s ≡ netOf due us a s
+unfolding netOf
+netOf-order due ts us p a s = rw (net-order (λ t. t .quantity) ts us p a s, net-order amountOf ts us p a s)
+
+pub nets-order : (due : ℕ) (ts us : List Trade) → Perm ts us → nets due ts ≡ nets due us
+nets-order due ts us p = nets-same due ts us (netOf-order due ts us p)
 
 -- ── the survivors ──
 

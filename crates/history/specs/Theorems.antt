@@ -1,8 +1,8 @@
 -- The theorems of the whole, for every history of calls from an empty book: the statements to quote. Their words are in Histories; their proofs in the other files.
-use mathlib.Core.Path.{_≡_, refl, sym, ap, ap₂, _∙_}
+use mathlib.Core.Path.{_≡_, refl, sym, ap, ap₂, subst, _∙_}
 use mathlib.Core.Bool.{true, false, cond}
 use mathlib.Core.Option.{some, none}
-use mathlib.Core.List.{List, [], _∷_, _++_}
+use mathlib.Core.List.{List, [], _∷_, _++_, Perm, Perm·refl}
 use Prim.Native.Nat.{ℕ, _+_, _<_, _≤_}
 use native.Mathlib.Nat.{zero-add}
 use lib.ListN.{length, getD}
@@ -16,19 +16,21 @@ use Rattle.rules.specs.Run.{Meeting, meetings, taken}
 use Rattle.rules.specs.Layout.{book, bookLength, bookOf, bytesOf}
 use Rattle.rules.specs.LayoutLaws.{bytes-book, book-bytes, book-fits, bytes-long}
 use Rattle.rules.specs.Calls.{Call, roll, figure, answer, answerBytes, afterBytes, figureBytes, createAnswer, createBytes}
+use Rattle.rules.specs.declared.Trade.{Trade}
 use Rattle.rules.specs.declared.Book.{Book}
 use Rattle.rules.specs.CallFile.{contentsOf, fileOf}
 use Rattle.laws.specs.Shaped.{Shaped, fits-shaped}
 use Rattle.laws.specs.Accepted.{may-create}
 use Rattle.laws.specs.ReadBack.{stored-empty, created-fits}
 use Rattle.laws.specs.Backed.{unmet, meeting-backed}
-use Rattle.history.specs.Histories.{accepted, made, logOf, rolls, others, survivors, tidy, lastForm, find, past, today, morning, EndsRolled, SameRoll}
+use Rattle.history.specs.Histories.{accepted, made, logOf, rolls, others, survivors, tidy, Interleaved, lastForm, find, past, today, morning, EndsRolled, SameRoll}
 use Rattle.history.specs.Amounts.{openShares, moneyOpen, everCharged, deposited, withdrawn}
 use Rattle.history.specs.Steps.{Good, made-good, empty-good}
 use Rattle.history.specs.Rest.{apart}
 use Rattle.history.specs.Refusals.{never-1, never-13}
 use Rattle.history.specs.Survivors.{numbersOf, survivors-distinct}
 use Rattle.history.specs.Days.{tidy-book, tidy-log, tidy-others, tidy-survivors, tidy-roll, survivors-once, any-roll}
+use Rattle.history.specs.Interleaving.{interleaved-log, interleaved-roll}
 use Rattle.history.specs.Forms.{forms-empty}
 use Rattle.history.specs.ManyDays.{past-today, past-none, past-ends, today-rolls, day-made, morning-list}
 use Rattle.history.specs.ZeroShares.{shares-zero}
@@ -37,7 +39,7 @@ use Rattle.history.specs.Held.{held-kept, nothing-held}
 use Rattle.history.specs.Lent.{madeBytes, AllFit}
 use Rattle.history.specs.AllBytes.{bytes-of}
 use Rattle.history.specs.LentHistory.{answer-bytes, figure-bytes, made-bytes, made-fits, roll-bytes}
-use Rattle.history.specs.TidyFits.{fit-tidied}
+use Rattle.history.specs.TidyFits.{fit-both, fit-days, fit-tidied}
 use Rattle.history.specs.FileHistory.{file-well, file-made}
 use Rattle.history.specs.Logs.{made-append, rolled-made}
 
@@ -73,10 +75,22 @@ module _ (k : Book) (is-sound : sound k ≡ true) (shaped : Shaped k) (no-trades
     pub once : distinct (numbersOf (survivors (listOf (made k cs)))) ≡ true
     once = survivors-once k good no-trades cs day
 
-    -- Any other day with the same accepted deposits, withdrawals and runs in the same order and the same survivors, however they lie between each other.
+    -- Any other day with the same accepted deposits, withdrawals and runs in the same order and the same survivors, entered in any order and however they
+    -- lie between the other calls (a permutation of a list is mathlib's `Perm`);
+    pub history-any-order : (ds : List Call) → rolls k ds ≡ false → others k ds ≡ others k cs → Perm (survivors (listOf (made k ds))) (survivors (listOf (made k cs)))
+        → SameRoll (made k ds) (made k cs)
+    history-any-order ds d e p = any-roll k good ds cs d day e p
+
+    -- so also with the survivors in the same order among themselves.
     pub history-any : (ds : List Call) → rolls k ds ≡ false → others k ds ≡ others k cs → survivors (listOf (made k ds)) ≡ survivors (listOf (made k cs))
         → SameRoll (made k ds) (made k cs)
-    history-any ds d e f = any-roll k good ds cs d day e f
+    history-any ds d e f = history-any-order ds d e (subst (Perm (survivors (listOf (made k ds)))) f (Perm·refl (survivors (listOf (made k ds)))))
+
+    -- Such a day there is for every order of the survivors and every way to lay their entries between the other calls: each call is accepted, and the roll
+    -- behind it is the same.
+    pub history-interleaved : (us : List Trade) → Perm us (survivors (listOf (made k cs))) → (ds : List Call) → Interleaved (others k cs) us ds
+        → (logOf k ds ≡ ds) × SameRoll (made k cs) (made k ds)
+    history-interleaved us p ds i = (interleaved-log k good no-trades cs day us p ds i, interleaved-roll k good no-trades cs day us p ds i)
 
 -- ── any number of days, from an empty book ──
 
@@ -152,6 +166,15 @@ module _ (codes : List ℕ) (long : length codes ≡ securities) (known : all is
         let h = today-rolls begin cs in
         rw (sym (day-made begin cs)) (tidy-log m morning-good e d h, tidy-others m morning-good e d h, tidy-survivors m morning-good e d h)
 
+    -- The survivors may be entered in any order, and between the day's deposits, withdrawals and runs in any way.
+    pub history-any-way : let m = morning begin cs in let d = today begin cs in
+        (us : List Trade) → Perm us (survivors (listOf (made begin cs))) → (ds : List Call) → Interleaved (others m d) us ds
+        → (logOf m ds ≡ ds) × SameRoll (made begin cs) (made m ds)
+    history-any-way =
+        let m = morning begin cs in
+        rw (sym (day-made begin cs))
+        (history-interleaved m (morning-good .sound) (morning-good .shaped) (morning-list begin cs begin-list) (today begin cs) (today-rolls begin cs))
+
     -- Each survivor is in its last accepted form of the day, by the log of the day, and its number stands once.
     pub history-forms : (n : ℕ) → find n (survivors (listOf (made begin cs))) ≡ lastForm n none (logOf (morning begin cs) (today begin cs))
     history-forms n =
@@ -224,7 +247,18 @@ module _ (bs codes : List ℕ) (created : createAnswer bs codes ≡ 0) (cs : Lis
   pub bytes-figure : (c : Call) → figureBytes lent c ≡ cond (accepted reached c) (figure reached c) 0
   bytes-figure c = ap (λ (l : List ℕ). figureBytes l c) bytes-are-history ∙ figure-bytes reached every-book-fits c
 
-  -- History over bytes: after each accepted roll the bytes are those of the same past, the tidy day and that one roll.
+  -- an accepted roll is accepted behind the calls ds too, and leaves the same bytes
+  abbrev pub RolledBy : List Call → Type 0
+  RolledBy ds = answerBytes lent roll ≡ 0
+      → (answerBytes (madeBytes (createBytes bs codes) ds) roll ≡ 0) × (afterBytes lent roll ≡ afterBytes (madeBytes (createBytes bs codes) ds) roll)
+
+  same-bytes : (ds : List Call) → AllFit ds → SameRoll reached (made (emptyBook codes) ds) → RolledBy ds
+  same-bytes ds f same =
+      rw (bytes-are-history, from-created ds f)
+      (roll-bytes reached (made (emptyBook codes) ds) every-book-fits
+      (made-fits (emptyBook codes) ds (empty-good codes codes-long codes-known) (created-fits bs codes created) f) same)
+
+  -- History over bytes: after each accepted roll the bytes are those of the same past, the tidy day and that one roll;
   abbrev pub tidied : List Call
   tidied = past (emptyBook codes) cs ++ tidy (morning (emptyBook codes) cs) (today (emptyBook codes) cs)
 
@@ -237,12 +271,18 @@ module _ (bs codes : List ℕ) (created : createAnswer bs codes ≡ 0) (cs : Lis
       let k = emptyBook codes in
       rw (made-append k (past k cs) (tidy (made k (past k cs)) (today k cs))) (history codes codes-long codes-known cs)
 
-  pub bytes-history : answerBytes lent roll ≡ 0
-      → (answerBytes (madeBytes (createBytes bs codes) tidied) roll ≡ 0) × (afterBytes lent roll ≡ afterBytes (madeBytes (createBytes bs codes) tidied) roll)
-  bytes-history =
-      rw (bytes-are-history, from-created tidied tidied-fit)
-      (roll-bytes reached (made (emptyBook codes) tidied) every-book-fits
-      (made-fits (emptyBook codes) tidied (empty-good codes codes-long codes-known) (created-fits bs codes created) tidied-fit) same-book)
+  pub bytes-history : RolledBy tidied
+  bytes-history = same-bytes tidied tidied-fit same-book
+
+  -- and of the same past and a day that enters the survivors in any order, between the day's deposits, withdrawals and runs in any way.
+  pub bytes-history-any-way : let k = emptyBook codes in
+      (us : List Trade) → Perm us (survivors (listOf reached)) → (ds : List Call) → AllFit ds → Interleaved (others (morning k cs) (today k cs)) us ds
+      → RolledBy (past k cs ++ ds)
+  unfolding morning
+  bytes-history-any-way us p ds f i =
+      let k = emptyBook codes in
+      same-bytes (past k cs ++ ds) (fit-both (past k cs) ds (fit-days k cs fit .0) f)
+      (rw (made-append k (past k cs) ds) (history-any-way codes codes-long codes-known cs us p ds i .1))
 
 -- Any bytes that are a sound book: the calls over them are the history of the definitions from it.
 pub any-bytes : (bs : List ℕ) (cs : List Call) → Bytes bs → length bs ≡ bookLength → sound (bookOf bs) ≡ true → AllFit cs

@@ -26,7 +26,7 @@ fit-none : AllFit []
 unfolding AllFit
 fit-none = tt
 
-fit-both : (cs ds : List Call) → AllFit cs → AllFit ds → AllFit (cs ++ ds)
+pub fit-both : (cs ds : List Call) → AllFit cs → AllFit ds → AllFit (cs ++ ds)
 unfolding AllFit
 fit-both [] ds f h = h
 fit-both (c ∷ cs) ds f h = (f .0, fit-both cs ds (f .1) h)
@@ -52,7 +52,7 @@ fit-keep t (c ∷ cs) f =
 
 -- ── the days ──
 
-fit-days : (k : Book) (cs : List Call) → AllFit cs → AllFit (past k cs) × AllFit (today k cs)
+pub fit-days : (k : Book) (cs : List Call) → AllFit cs → AllFit (past k cs) × AllFit (today k cs)
 fit-days k cs f = fit-parts (past k cs) (today k cs) (subst AllFit (sym (past-today k cs)) f)
 
 -- ── the survivors ──

@@ -23,9 +23,10 @@ use Rattle.laws.specs.ReadBack.{Plain}
 use Rattle.laws.specs.Fitting.{CallFits}
 use Rattle.history.specs.Histories.{made, rolls, survivors}
 use Rattle.history.specs.Lent.{madeBytes, AllFit}
+use Rattle.history.specs.Steps.{left-currency, made-currency}
 use Rattle.marking.specs.Isolation.{isolation}
 use Rattle.isolation.specs.Touching.{isParty, tradesStanding, hasTraded, hasFallingDue, touches, touched, concerns, concerned}
-use Rattle.isolation.specs.Untouched.{left-currency, untouched-records}
+use Rattle.isolation.specs.Untouched.{untouched-records}
 use Rattle.isolation.specs.TradesApart.{left-trades}
 use Rattle.isolation.specs.SameDay.{made-day}
 use Rattle.isolation.specs.RunApart.{run-records}
@@ -84,9 +85,7 @@ others-day k cs a r e f = own-roll (made k cs) k a (made-day k cs r) (untouched-
 
 -- No call alters the currency table.
 pub same-currency : (k : Book) (cs : List Call) → made k cs .currency ≡ k .currency
-unfolding made
-same-currency k [] = refl
-same-currency k (c ∷ cs) = same-currency (left k c) cs ∙ left-currency k c
+same-currency = made-currency
 
 -- ── marks, over lent bytes: sound or not, the call accepted or refused ──
 

@@ -1,15 +1,13 @@
--- "No call on behalf of one account changes what marks answer for another": every call keeps the currency table; entry, amendment and
--- exclusion of trades, deposits and withdrawals keep the records of every account; so does any refused call.
+-- "No call on behalf of one account changes what marks answer for another": entry, amendment and exclusion of trades, deposits and withdrawals keep the
+-- records of every account; so does any refused call. (That no call alters the currency table is in history/specs/Steps.)
 use mathlib.Core.Path.{_≡_, refl, ap, _∙_}
 use mathlib.Core.Bool.{true, not}
 use mathlib.Core.List.{List}
 use Prim.Native.Nat.{ℕ}
 use borrow.Author.Tests.{eqb-true, not-false}
-use Rattle.rules.specs.Book.{openOf, withOpen, withList, withHoldings, withCharges, withDay}
+use Rattle.rules.specs.Book.{openOf, withList, withHoldings}
 use Rattle.rules.specs.Sound.{sound}
 use Rattle.rules.specs.Marks.{markedOf}
-use Rattle.rules.specs.Roll.{uncharged, netted, emptied, nextDay, offset, rolled}
-use Rattle.rules.specs.Run.{settled}
 use Rattle.rules.specs.Calls.{Call, enter, amend, exclude, roll, deposit, withdraw, run, tests, after, answer}
 use Rattle.rules.specs.CallFile.{left}
 use Rattle.rules.specs.declared.Trade.{Trade}
@@ -19,25 +17,6 @@ use Rattle.laws.specs.Accepted.{passed}
 use Rattle.laws.specs.ReadBack.{Plain}
 use Rattle.history.specs.Histories.{accepted}
 use Rattle.history.specs.Steps.{left-yes, left-no}
-
--- ── the currency table ──
-
-after-currency : (k : Book) (c : Call) → after k c .currency ≡ k .currency
-unfolding after withList withHoldings rolled offset nextDay emptied netted uncharged settled withOpen withCharges withDay
-after-currency k (enter t) = refl
-after-currency k (amend t) = refl
-after-currency k (exclude n) = refl
-after-currency k roll = refl
-after-currency k (deposit a s q) = refl
-after-currency k (withdraw a s q) = refl
-after-currency k (run s) = refl
-
--- no call alters it
-pub left-currency : (k : Book) (c : Call) → left k c .currency ≡ k .currency
-left-currency k c =
-    by-test (accepted k c)
-    (λ e. ap (λ (m : Book). m .currency) (left-yes k c e) ∙ after-currency k c)
-    (λ e. ap (λ (m : Book). m .currency) (left-no k c e))
 
 -- ── the records ──
 
