@@ -2,7 +2,7 @@
 use mathlib.Core.Path.{_≡_, refl, sym}
 use mathlib.Core.Bool.{true, false, and-false}
 use mathlib.Core.List.{List, [], _∷_}
-use Prim.Native.Nat.{ℕ, zero, suc, _+_, _-_, _<_, _≤_}
+use Prim.Native.Nat.{ℕ, zero, suc, _+_, _<_, _≤_}
 use native.Mathlib.Numerals.{add-one}
 use native.Mathlib.Nat.{le-of-suc-le-suc}
 use native.Mathlib.Omega.{arith}
@@ -46,21 +46,28 @@ fails (p ∷ q ∷ l) (suc (suc n)) zero w h e = rw (le-ltb (p .number) (q .numb
 fails (p ∷ q ∷ l) (suc (suc n)) (suc i) w h e =
     rw (← fails (q ∷ l) (suc n) i (le-of-suc-le-suc w) (le-of-suc-le-suc h) e) (sym (and-false (ltb (p .number) (q .number))))
 
--- the same of a record and the one before it, as the code reads them
-pub ascends-more : (l : List Position) (i : ℕ) → 1 ≤ i → i < length l → ascends (take i l) ≡ true
-    → numberAt l (i - 1) < numberAt l i → ascends (take (i + 1) l) ≡ true
-ascends-more l zero o h a e = absurd (omega arith)
-ascends-more l (suc i) o h a e = let f : suc i - 1 ≡ i = omega arith in rw add-one (more l i h a (rw f at e))
+-- ── the loop ──
 
-pub ascends-fails : (l : List Position) (n i : ℕ) → 1 ≤ i → n ≤ length l → i < n → numberAt l i ≤ numberAt l (i - 1)
-    → false ≡ ascends (take n l)
-ascends-fails l n zero o w h e = absurd (omega arith)
-ascends-fails l n (suc i) o w h e = let f : suc i - 1 ≡ i = omega arith in fails l n i w h (rw f at e)
+-- the least number that the record at i may have
+unfoldable pub leastAt : List Position → ℕ → ℕ
+leastAt l zero = 0
+leastAt l (suc i) = numberAt l i + 1
 
--- the first n, walked to the end: i stands at n, or at 1 where there is no second record
-pub ascends-done : (l : List Position) (n i : ℕ) → 1 ≤ i → n ≤ i → (1 < i → i ≤ n) → ascends (take i l) ≡ true → true ≡ ascends (take n l)
-ascends-done l n zero o h w a = absurd (omega arith)
-ascends-done l n (suc zero) o h w a = sym (ascends-few n l (omega arith))
-ascends-done l n (suc (suc i)) o h w a =
-    let e : n ≡ suc (suc i) = omega (arith, w (omega arith)) in
-    rw e (sym a)
+pub least-first : (l : List Position) → 0 ≡ leastAt l 0
+unfolding leastAt
+least-first l = refl
+
+pub least-next : (l : List Position) (i : ℕ) → numberAt l i + 1 ≡ leastAt l (i + 1)
+unfolding leastAt
+least-next l i = rw (add-one i)
+
+pub ascends-more : (l : List Position) (i : ℕ) → i < length l → ascends (take i l) ≡ true → leastAt l i ≤ numberAt l i
+    → ascends (take (i + 1) l) ≡ true
+unfolding leastAt
+ascends-more l zero h a e = ascends-few 1 l (omega arith)
+ascends-more l (suc i) h a e = rw add-one (more l i h a (omega arith))
+
+pub ascends-fails : (l : List Position) (n i : ℕ) → n ≤ length l → i < n → numberAt l i < leastAt l i → false ≡ ascends (take n l)
+unfolding leastAt
+ascends-fails l n zero w h e = absurd (omega arith)
+ascends-fails l n (suc i) w h e = fails l n i w h (omega arith)

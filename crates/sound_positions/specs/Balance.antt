@@ -1,92 +1,70 @@
--- Long and short totals, kept apart, are equal exactly if the quantities total zero; so the pass decides the rule.
-use mathlib.Core.Path.{_≡_, refl, sym, ap, ap₂, _∙_}
-use mathlib.Core.Bool.{Bool, _&&_}
+-- Sums that are zero for each security say that the quantities are balanced; and a record that is not due by the day is due on day + 1, where no due day is beyond it.
+use mathlib.Core.Path.{_≡_, refl, sym, ap, _∙_}
+use mathlib.Core.Bool.{Bool, true, not, _&&_}
 use mathlib.Core.List.{List, [], _∷_}
-use Prim.Native.Nat.{ℕ, zero, suc, _+_, _<_, zero-le}
+use Prim.Native.Nat.{ℕ, zero, suc, _+_, _<_}
 use native.Mathlib.Nat.{le-of-suc-le-suc}
 use native.Mathlib.Omega.{arith}
-use lib.Dec.{eqb, leb}
+use lib.Dec.{eqb, ltb}
 use lib.ListN.{length, getD}
-use lib.IntN.{pos, _-ℤ_}
-use borrow.Author.Tests.{eqb-true, eqb-false, le-leb, leb-true}
-use Rattle.integers.specs.Linear.{zlin}
-use Rattle.integers.specs.Sums.{sumBy}
-use Rattle.rules.specs.Words.{all, keep, total, from}
+use lib.IntN.{ℤ}
+use borrow.Author.Tests.{eq-eqb, ne-eqb, leb-true, leb-false, ltb-true}
+use Rattle.rules.specs.Words.{all, keep, from}
 use Rattle.rules.specs.Bounds.{securities, everySecurity}
-use Rattle.rules.specs.Book.{quantityOf, dueOf, isZero, openOf}
-use Rattle.rules.specs.Sound.{balanced, isDue, dueBalanced}
+use Rattle.rules.specs.Book.{dueOf, isZero, openOf}
+use Rattle.rules.specs.Sound.{balanced, isDue, dueFits, dueBalanced}
 use Rattle.rules.specs.declared.Position.{Position}
 use Rattle.rules.specs.declared.Book.{Book}
-use Rattle.laws.specs.Cases.{by-test, is-zero, zero-is}
-use Rattle.laws.specs.Keeping.{keep-same}
-use Rattle.sound_positions.specs.Table.{all-same}
-use Rattle.sound_positions.specs.Totalling.{longOf, shortOf, ofSecurity, Totalled}
-
--- ── a total is zero ──
-
-pub sum-sides : (ps : List Position) → sumBy quantityOf ps ≡ pos (total longOf ps) -ℤ pos (total shortOf ps)
-unfolding total
-sum-sides [] = refl
-sum-sides (p ∷ ps) = simp zlin (omega (arith, simp zlin at (sum-sides ps)))
-
--- The law: long and short totals are equal exactly if the quantities total zero.
-pub zero-sides : (ps : List Position) → eqb (total longOf ps) (total shortOf ps) ≡ isZero (sumBy quantityOf ps)
-zero-sides ps =
-    let e = sum-sides ps in
-    by-test (eqb (total longOf ps) (total shortOf ps))
-    (λ h. let f = eqb-true (total longOf ps) (total shortOf ps) h in
-    h ∙ sym (zero-is (sumBy quantityOf ps) (simp zlin (omega (arith, f, simp zlin at e)))))
-    (λ h. by-test (isZero (sumBy quantityOf ps))
-    (λ z. let f : sumBy quantityOf ps ≡ pos 0 = is-zero (sumBy quantityOf ps) z in
-    let g : total longOf ps ≡ total shortOf ps = omega (arith, simp zlin at e, simp zlin at f) in
-    absurd (eqb-false (total longOf ps) (total shortOf ps) h g))
-    (λ z. h ∙ sym z))
+use Rattle.laws.specs.Cases.{by-test}
+use Rattle.laws.specs.All.{all-cons, securities-below}
+use Rattle.laws.specs.Keeping.{keep-none, keep-yes, keep-no}
+use Rattle.sound_positions.specs.Summing.{sumAt, sumOf, Summed}
 
 -- ── behind the pass ──
 
--- the sides of a security are equal
-abbrev pub equalAt : List ℕ → List ℕ → ℕ → Bool
-equalAt receive deliver s = eqb (getD receive s 0) (getD deliver s 0)
+-- the sum of a security is zero
+abbrev pub zeroAt : List ℤ → ℕ → Bool
+zeroAt sums s = isZero (sumAt sums s)
 
-pub balanced-sides : (ps : List Position) (receive deliver : List ℕ) → Totalled longOf ps receive → Totalled shortOf ps deliver
-    → all (equalAt receive deliver) everySecurity ≡ balanced ps
+zeros : (ps : List Position) (sums : List ℤ) (l : List ℕ) → Summed ps sums → all (λ s. ltb s securities) l ≡ true
+    → all (zeroAt sums) l ≡ all (λ s. isZero (sumOf s ps)) l
+unfolding all
+zeros ps sums [] h a = refl
+zeros ps sums (s ∷ l) h a =
+    let b = all-cons (λ s. ltb s securities) s l a in
+    rw (h .sum s (ltb-true s securities (b .0)), zeros ps sums l h (b .1))
+
+pub balanced-sums : (ps : List Position) (sums : List ℤ) → Summed ps sums → all (zeroAt sums) everySecurity ≡ balanced ps
 unfolding balanced
-balanced-sides ps receive deliver h g =
-    all-same (equalAt receive deliver) (λ s. isZero (sumBy quantityOf (ofSecurity s ps))) everySecurity
-    (λ s. ap₂ eqb (h .sum s) (g .sum s) ∙ zero-sides (ofSecurity s ps))
+balanced-sums ps sums h = zeros ps sums everySecurity h securities-below
 
 -- ── the two groups of due days ──
 
--- due on a day from first to last
-unfoldable pub dueWithin : ℕ → ℕ → Position → Bool
-dueWithin first last p = leb first (dueOf p) && leb (dueOf p) last
+-- not due by the day
+abbrev pub isLater : ℕ → Position → Bool
+isLater day p = not (isDue day p)
 
-due-today : (day : ℕ) (ps : List Position) → keep (dueWithin 0 day) ps ≡ keep (isDue day) ps
-unfolding dueWithin isDue
-due-today day ps = keep-same (dueWithin 0 day) (isDue day) ps (λ p. rw (le-leb 0 (dueOf p) zero-le))
+later-is : (day : ℕ) (p : Position) → dueFits day p ≡ true → isLater day p ≡ eqb (dueOf p) (day + 1)
+unfolding isDue dueFits
+later-is day p f =
+    by-test (isDue day p)
+    (λ e. ap not e ∙ sym (ne-eqb (dueOf p) (day + 1) (λ g. omega (arith, leb-true (dueOf p) day e))))
+    (λ e. ap not e ∙ sym (eq-eqb (dueOf p) (day + 1) (omega (arith, leb-false (dueOf p) day e, leb-true (dueOf p) (day + 1) f))))
 
-one-day : (m n : ℕ) → leb m n && leb n m ≡ eqb n m
-one-day m n =
-    by-test (eqb n m)
-    (λ e. let f = eqb-true n m e in rw (le-leb m n (omega (arith, f)), le-leb n m (omega (arith, f)), e))
-    (λ e. by-test (leb m n)
-    (λ a. by-test (leb n m)
-    (λ b. absurd (eqb-false n m e (omega (arith, leb-true m n a, leb-true n m b))))
-    (λ b. rw (a, b, e)))
-    (λ a. rw (a, e)))
-
-due-on : (day : ℕ) (ps : List Position) → keep (dueWithin day day) ps ≡ keep (λ p. eqb (dueOf p) day) ps
-unfolding dueWithin
-due-on day ps = keep-same (dueWithin day day) (λ p. eqb (dueOf p) day) ps (λ p. one-day day (dueOf p))
+keep-later : (day : ℕ) (ps : List Position) → all (dueFits day) ps ≡ true → keep (isLater day) ps ≡ keep (λ p. eqb (dueOf p) (day + 1)) ps
+keep-later day [] a = keep-none (isLater day) ∙ sym (keep-none (λ p. eqb (dueOf p) (day + 1)))
+keep-later day (p ∷ ps) a =
+    let b = all-cons (dueFits day) p ps a in
+    let t : Position → Bool = λ p. eqb (dueOf p) (day + 1) in
+    by-test (t p)
+    (λ e. keep-yes (isLater day) p ps (later-is day p (b .0) ∙ e) ∙ ap (λ (r : List Position). p ∷ r) (keep-later day ps (b .1)) ∙ sym (keep-yes t p ps e))
+    (λ e. keep-no (isLater day) p ps (later-is day p (b .0) ∙ e) ∙ keep-later day ps (b .1) ∙ sym (keep-no t p ps e))
 
 -- so the two tests of the code are the rule's
-pub due-by : (k : Book) (day : ℕ) (a b : Bool) → day ≡ k .day → a ≡ balanced (keep (dueWithin 0 day) (openOf k))
-    → b ≡ balanced (keep (dueWithin (day + 1) (day + 1)) (openOf k)) → a && b ≡ dueBalanced k
+pub due-by : (k : Book) → all (dueFits (k .day)) (openOf k) ≡ true
+    → balanced (keep (isDue (k .day)) (openOf k)) && balanced (keep (isLater (k .day)) (openOf k)) ≡ dueBalanced k
 unfolding dueBalanced
-due-by k day a b e p q =
-    ap₂ (λ (x y : Bool). x && y)
-    (p ∙ ap (λ (d : ℕ). balanced (keep (dueWithin 0 d) (openOf k))) e ∙ ap balanced (due-today (k .day) (openOf k)))
-    (q ∙ ap (λ (d : ℕ). balanced (keep (dueWithin (d + 1) (d + 1)) (openOf k))) e ∙ ap balanced (due-on (k .day + 1) (openOf k)))
+due-by k a = ap (λ (ps : List Position). balanced (keep (isDue (k .day)) (openOf k)) && balanced ps) (keep-later (k .day) (openOf k) a)
 
 -- ── a loop over the securities ──
 from-length : (i n : ℕ) → length (from i n) ≡ n

@@ -1,7 +1,8 @@
 -- What the loops over the position table need of the rules. No definition here must be believed.
 pub mod Table
+pub mod DueBy
 pub mod Each
 pub mod Ascent
-pub mod Totalling
+pub mod Summing
 pub mod Balance
 pub mod OneSign

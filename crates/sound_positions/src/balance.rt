@@ -1,95 +1,54 @@
 // "Per security, quantities due by the day total zero, as do those due on day + 1."
-// The shares to receive and those to deliver are added up apart, each security's. Sums of sizes cannot pass 64 bits
-// here; that the two are equal says that the quantities total zero.
-use crate::number::due_of;
+// Each security has a sum of the quantities due by the day, and one of those due later.
+use crate::due::is_due;
 use crate::number::security_of;
-use book::day_at;
-use book::position_at;
-use book::records_at;
 use rules::Position;
+use units::Whole;
 ghost use mathlib.Core.Path.{_≡_};
-ghost use mathlib.Core.Bool.{true, cond};
-ghost use Prim.Native.Nat.{_≤_};
-ghost use lib.ListN.{length};
-ghost use Rattle.rules.specs.Words.{all, keep};
-ghost use Rattle.rules.specs.Bounds.{mostRecords, everySecurity};
-ghost use Rattle.rules.specs.Book.{openOf};
-ghost use Rattle.rules.specs.Layout.{bookLength, bookOf};
-ghost use Rattle.rules.specs.Sound.{sizesFit, balanced, dueBalanced};
-ghost use Rattle.sound_positions.specs.Totalling.{longOf, shortOf, withSide, Room};
-ghost use Rattle.sound_positions.specs.Balance.{dueWithin, equalAt};
+ghost use mathlib.Core.Bool.{cond};
+ghost use Rattle.rules.specs.Words.{all};
+ghost use Rattle.rules.specs.Bounds.{everySecurity};
+ghost use Rattle.rules.specs.Sound.{isDue};
+ghost use Rattle.sound_positions.specs.Summing.{withQuantity, Room};
+ghost use Rattle.sound_positions.specs.Balance.{isLater, zeroAt};
 
-// A record is added on the side of its sign.
-fn add_record(receive: &mut [u64; 32], deliver: &mut [u64; 32], p: Position)
-    requires { ⌜ Room (now receive) (now deliver) p ⌝ }
-    ensures { λ _. ⌜ (now (receive .exit) ≡ withSide longOf (now (receive .entry)) p)
-        × (now (deliver .exit) ≡ withSide shortOf (now (deliver .entry)) p) ⌝ }
+// A record's quantity, added to the sum of its security.
+fn add_quantity(sums: &mut [i64; 32], p: Position)
+    requires { ⌜ Room (now sums) p ⌝ }
+    ensures { λ _. ⌜ now (sums .exit) ≡ withQuantity (now (sums .entry)) p ⌝ }
 {
     let s = security_of(p);
     let q = p.quantity;
-    let size = q.size();
-    if q.is_negative() {
-        let sum = deliver[s] + size;
-        deliver[s] = sum;
-        return;
-    }
-    let sum = receive[s] + size;
-    receive[s] = sum;
+    let quantity = q.0;
+    let old = Whole(sums[s]);
+    let sum = old.plus(quantity);
+    let new = sum.0;
+    sums[s] = new;
 }
 
-// The record is added if it is due on a day from first to last.
-fn add_due(receive: &mut [u64; 32], deliver: &mut [u64; 32], p: Position, first: u32, last: u32)
-    requires { ⌜ Room (now receive) (now deliver) p ⌝ }
-    ensures { λ _. ⌜ (now (receive .exit) ≡ cond (dueWithin first last p) (withSide longOf (now (receive .entry)) p) (now (receive .entry)))
-        × (now (deliver .exit) ≡ cond (dueWithin first last p) (withSide shortOf (now (deliver .entry)) p) (now (deliver .entry))) ⌝ }
+// It counts among those due by the day, or among those due later.
+pub(crate) fn add_by_day(today: &mut [i64; 32], later: &mut [i64; 32], day: u16, p: Position)
+    requires { ⌜ Room (now today) p × Room (now later) p ⌝ }
+    ensures { λ _. ⌜ (now (today .exit) ≡ cond (isDue day p) (withQuantity (now (today .entry)) p) (now (today .entry)))
+        × (now (later .exit) ≡ cond (isLater day p) (withQuantity (now (later .entry)) p) (now (later .entry))) ⌝ }
 {
-    let due = due_of(p);
-    if due < first {
+    if is_due(day, p) {
+        add_quantity(today, p);
         return;
     }
-    if last < due {
-        return;
-    }
-    add_record(receive, deliver, p);
+    add_quantity(later, p);
 }
 
-fn sides_equal(receive: &[u64; 32], deliver: &[u64; 32]) -> bool
-    ensures { λ r. ⌜ r ≡ all (equalAt (now (receive .entry)) (now (deliver .entry))) everySecurity ⌝ }
+pub(crate) fn sums_zero(sums: &[i64; 32]) -> bool
+    ensures { λ r. ⌜ r ≡ all (zeroAt (now (sums .entry))) everySecurity ⌝ }
 {
     let mut s: usize = 0;
     while s < 32 {
-        if receive[s] != deliver[s] {
+        let sum = Whole(sums[s]);
+        if !sum.is_zero() {
             return false;
         }
         s += 1;
     }
     true
-}
-
-fn balanced_within(b: &[u8], first: u32, last: u32) -> bool
-    requires { ⌜ (length (now b) ≡ bookLength) × ((bookOf (now b) .records ≤ mostRecords) × (all sizesFit (openOf (bookOf (now b))) ≡ true)) ⌝ }
-    ensures { λ r. ⌜ r ≡ balanced (keep (dueWithin first last) (openOf (bookOf (now (b .entry))))) ⌝ }
-{
-    let n = records_at(b) as usize;
-    let mut receive: [u64; 32] = [0; 32];
-    let mut deliver: [u64; 32] = [0; 32];
-    let mut i: usize = 0;
-    while i < n {
-        let p = position_at(b, i);
-        add_due(&mut receive, &mut deliver, p, first, last);
-        i += 1;
-    }
-    sides_equal(&receive, &deliver)
-}
-
-pub fn due_balanced(b: &[u8]) -> bool
-    requires { ⌜ (length (now b) ≡ bookLength) × ((bookOf (now b) .records ≤ mostRecords) × (all sizesFit (openOf (bookOf (now b))) ≡ true)) ⌝ }
-    ensures { λ r. ⌜ r ≡ dueBalanced (bookOf (now (b .entry))) ⌝ }
-{
-    let today = day_at(b) as u32;
-    if !balanced_within(b, 0, today) {
-        return false;
-    }
-    let tomorrow = today + 1;
-    balanced_within(b, tomorrow, tomorrow)
 }

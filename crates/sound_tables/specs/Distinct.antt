@@ -9,12 +9,13 @@ use native.Mathlib.Decide.{ℕ-discrete}
 use native.Mathlib.Numerals.{add-one}
 use native.Mathlib.Omega.{arith}
 use lib.Dec.{eqb}
-use lib.ListN.{length, getD, take, set, replicate, length-set, length-replicate, getD-replicate}
-use lib.Seq.{take-suc, take-all, getD-set-same, getD-set-other}
+use lib.ListN.{length, getD, take, replicate, length-replicate}
+use lib.Seq.{take-suc, take-all}
 use borrow.Author.Tests.{eq-eqb, ne-eqb}
 use Rattle.rules.specs.Words.{all, any}
 use Rattle.rules.specs.Sound.{distinct}
 use Rattle.laws.specs.Cases.{by-test, both-hold, and-hold, neither, true-false}
+use Rattle.sound_tables.specs.Flags.{flagAt, raised, all-down, raised-long, raised-up, raised-other}
 
 -- the number is among some
 abbrev pub among : ℕ → List ℕ → Bool
@@ -93,22 +94,22 @@ distinct-done ns i h e = sym e ∙ ap distinct (take-all i ns h)
 -- ── the flags ──
 
 -- a flag is up exactly if its number is among the first
-pub record Flagged (flags : List Bool) (ns : List ℕ) : Type 0 where
-  pub long : length flags ≡ 65536
-  pub flag : (n : ℕ) → n < 65536 → getD flags n false ≡ among n ns
+pub record Flagged (flags ns : List ℕ) : Type 0 where
+  pub long : length flags ≡ 1024
+  pub flag : (n : ℕ) → n < 65536 → flagAt flags n ≡ among n ns
 
-pub flagged-none : (ns : List ℕ) → Flagged (replicate 65536 false) (take 0 ns)
+pub flagged-none : (ns : List ℕ) → Flagged (replicate 1024 0) (take 0 ns)
 unfolding any
-flagged-none ns = record { long = length-replicate 65536 false; flag = λ n h. getD-replicate 65536 n false false h }
+flagged-none ns = record { long = length-replicate {A = ℕ} 1024 0; flag = all-down }
 
-pub flagged-more : (flags : List Bool) (ns : List ℕ) (i x : ℕ) → i < length ns → getD ns i 0 ≡ x → x < 65536 → Flagged flags (take i ns)
-    → Flagged (set flags x true) (take (i + 1) ns)
+pub flagged-more : (flags ns : List ℕ) (i x : ℕ) → i < length ns → getD ns i 0 ≡ x → x < 65536 → Flagged flags (take i ns)
+    → Flagged (raised flags x) (take (i + 1) ns)
 flagged-more flags ns i x h e b f = record {
-  long = length-set flags x true ∙ f .long;
+  long = raised-long flags (f .long) x b;
   flag = λ n k. dite (ℕ-discrete n x)
-      (λ s. ap (λ (m : ℕ). getD (set flags x true) m false) s ∙ getD-set-same flags x true false (omega (arith, f .long))
+      (λ s. ap (flagAt (raised flags x)) s ∙ raised-up flags (f .long) x b
       ∙ sym (among-more n x ns i h e ∙ rw (eq-eqb x n (sym s)) (or-yes (among n (take i ns)))))
-      (λ d. getD-set-other flags x n true false d ∙ f .flag n k
+      (λ d. raised-other flags (f .long) x b n d ∙ f .flag n k
       ∙ sym (among-more n x ns i h e ∙ rw (ne-eqb x n (λ s. d (sym s))) (or-false (among n (take i ns)))));
 }
   where

@@ -1,73 +1,56 @@
-// "Holdings 0 to 10^12, each security's total too, kept account by account, 32 entries each."
+// "Holdings 0 to 10^12, each security's total too, kept account by account, 32 entries each." And "an unlisted security
+// has no .. holdings". Both are asked of the totals: no holding is below zero, so that none is above its security's total.
+use book::code_at;
 use book::holding_at;
 ghost use mathlib.Core.Path.{_≡_};
-ghost use mathlib.Core.Bool.{true};
-ghost use Prim.Native.Nat.{_+_, _^_, _<_};
+ghost use Prim.Native.Nat.{_<_};
 ghost use lib.Dec.{leb};
-ghost use lib.ListN.{length, getD, set};
-ghost use Rattle.rules.specs.Words.{all};
-ghost use Rattle.rules.specs.Bounds.{mostHeld};
+ghost use lib.ListN.{length};
+ghost use Rattle.rules.specs.Bounds.{securities};
 ghost use Rattle.rules.specs.Layout.{bookLength, bookOf};
-ghost use Rattle.rules.specs.Sound.{totalsHeld, holdingsFit};
+ghost use Rattle.rules.specs.Sound.{totalHeld};
+ghost use Rattle.sound_tables.specs.Held.{mostOf, heldFits};
 
-fn each_within(b: &[u8]) -> bool
-    requires { ⌜ length (now b) ≡ bookLength ⌝ }
-    ensures { λ r. ⌜ r ≡ all (λ h. leb h mostHeld) (bookOf (now (b .entry)) .holdings) ⌝ }
+// What all accounts hold of a security is at most this. What is left of it goes down account by account, so that no sum
+// passes 64 bits, whatever the bytes are.
+pub fn total_fits(b: &[u8], security: usize, most: u64) -> bool
+    requires { ⌜ (length (now b) ≡ bookLength) × (security < securities) ⌝ }
+    ensures { λ r. ⌜ r ≡ leb (totalHeld (bookOf (now (b .entry)) .holdings) security) most ⌝ }
 {
-    let mut i: usize = 0;
-    while i < 2048 {
-        if holding_at(b, i) > 1_000_000_000_000 {
+    let mut left = most;
+    let mut account: usize = 0;
+    while account < 64 {
+        let holding = holding_at(b, account * 32 + security);
+        if holding > left {
             return false;
         }
-        i += 1;
+        left -= holding;
+        account += 1;
     }
     true
 }
 
-// A holding, added to the total of its security.
-fn add_holding(totals: &mut [u64; 32], s: usize, holding: u64)
-    requires { ⌜ (s < 32) × (getD (now totals) s 0 + holding < 2 ^ 64) ⌝ }
-    ensures { λ _. ⌜ now (totals .exit) ≡ set (now (totals .entry)) s (getD (now (totals .entry)) s 0 + holding) ⌝ }
+// The most that the accounts may hold together of a security with this code.
+fn most_of(code: u8) -> u64
+    ensures { λ r. ⌜ r ≡ mostOf code ⌝ }
 {
-    let sum = totals[s] + holding;
-    totals[s] = sum;
-}
-
-// What all accounts hold of each security, in one pass over the holdings.
-pub fn totals_at(b: &[u8]) -> [u64; 32]
-    requires { ⌜ (length (now b) ≡ bookLength) × (all (λ h. leb h mostHeld) (bookOf (now b) .holdings) ≡ true) ⌝ }
-    ensures { λ r. ⌜ r ≡ totalsHeld (bookOf (now (b .entry)) .holdings) ⌝ }
-{
-    let mut totals: [u64; 32] = [0; 32];
-    let mut i: usize = 0;
-    while i < 2048 {
-        let holding = holding_at(b, i);
-        let s = i % 32;
-        add_holding(&mut totals, s, holding);
-        i += 1;
+    if code == 255 {
+        return 0;
     }
-    totals
+    1_000_000_000_000
 }
 
-fn totals_within(totals: [u64; 32]) -> bool
-    ensures { λ r. ⌜ r ≡ all (λ t. leb t mostHeld) totals ⌝ }
+pub fn holdings_fit(b: &[u8]) -> bool
+    requires { ⌜ length (now b) ≡ bookLength ⌝ }
+    ensures { λ r. ⌜ r ≡ heldFits (bookOf (now (b .entry))) ⌝ }
 {
     let mut s: usize = 0;
     while s < 32 {
-        if totals[s] > 1_000_000_000_000 {
+        let most = most_of(code_at(b, s));
+        if !total_fits(b, s, most) {
             return false;
         }
         s += 1;
     }
     true
-}
-
-pub fn holdings_fit(b: &[u8]) -> bool
-    requires { ⌜ length (now b) ≡ bookLength ⌝ }
-    ensures { λ r. ⌜ r ≡ holdingsFit (bookOf (now (b .entry))) ⌝ }
-{
-    if !each_within(b) {
-        return false;
-    }
-    totals_within(totals_at(b))
 }

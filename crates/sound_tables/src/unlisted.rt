@@ -1,20 +1,17 @@
-// "An unlisted security has no records and no holdings."
+// "An unlisted security has no records .." (Its holdings are tested with the totals of the holdings.)
 use book::code_at;
-use book::holding_at;
 use book::position_at;
 use book::records_at;
 use rules::Position;
 use sound_positions::security_of;
 ghost use mathlib.Core.Path.{_≡_};
-ghost use mathlib.Core.Bool.{not, _||_};
+ghost use mathlib.Core.Bool.{not};
 ghost use Prim.Native.Nat.{_≤_};
-ghost use lib.Dec.{eqb};
 ghost use lib.ListN.{length};
 ghost use Rattle.rules.specs.Words.{all};
-ghost use Rattle.rules.specs.Bounds.{accounts, securities, noCurrency, mostRecords};
+ghost use Rattle.rules.specs.Bounds.{mostRecords};
 ghost use Rattle.rules.specs.Book.{securityOf, openOf, unlisted};
 ghost use Rattle.rules.specs.Layout.{bookLength, bookOf};
-ghost use Rattle.rules.specs.Sound.{byAccount, holdsListed, unlistedEmpty};
 
 fn is_listed(b: &[u8], p: Position) -> bool
     requires { ⌜ length (now b) ≡ bookLength ⌝ }
@@ -24,7 +21,7 @@ fn is_listed(b: &[u8], p: Position) -> bool
     code_at(b, s) != 255
 }
 
-fn records_listed(b: &[u8]) -> bool
+pub fn records_listed(b: &[u8]) -> bool
     requires { ⌜ (length (now b) ≡ bookLength) × (bookOf (now b) .records ≤ mostRecords) ⌝ }
     ensures { λ r. ⌜ r ≡ all (λ p. not (unlisted (bookOf (now (b .entry))) (securityOf p))) (openOf (bookOf (now (b .entry)))) ⌝ }
 {
@@ -38,36 +35,4 @@ fn records_listed(b: &[u8]) -> bool
         i += 1;
     }
     true
-}
-
-fn holding_listed(code: u8, holding: u64) -> bool
-    ensures { λ r. ⌜ r ≡ (not (eqb code noCurrency) || eqb holding 0) ⌝ }
-{
-    code != 255 || holding == 0
-}
-
-fn holdings_listed(b: &[u8]) -> bool
-    requires { ⌜ length (now b) ≡ bookLength ⌝ }
-    ensures { λ r. ⌜ r ≡ all (holdsListed (bookOf (now (b .entry)) .currency)) (byAccount securities accounts (bookOf (now (b .entry)) .holdings)) ⌝ }
-{
-    let mut i: usize = 0;
-    while i < 2048 {
-        let code = code_at(b, i % 32);
-        let holding = holding_at(b, i);
-        if !holding_listed(code, holding) {
-            return false;
-        }
-        i += 1;
-    }
-    true
-}
-
-pub fn unlisted_empty(b: &[u8]) -> bool
-    requires { ⌜ (length (now b) ≡ bookLength) × (bookOf (now b) .records ≤ mostRecords) ⌝ }
-    ensures { λ r. ⌜ r ≡ unlistedEmpty (bookOf (now (b .entry))) ⌝ }
-{
-    if !records_listed(b) {
-        return false;
-    }
-    holdings_listed(b)
 }

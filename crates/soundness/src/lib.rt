@@ -1,5 +1,6 @@
-// The test for soundness (document 01, "A sound book"): all its sentences, in their order, read off the lent bytes of a
-// book; no table is copied. A later test counts on what the earlier ones have shown.
+// The test for soundness (document 01, "A sound book"): all its sentences, read off the lent bytes of a book; no table is
+// copied. Sentences that look at the same entries are tested in one walk over them. A later test counts on what the
+// earlier ones have shown.
 use book::BOOK_BYTES;
 use book::codes_of;
 ghost use mathlib.Core.Path.{_≡_};
@@ -13,16 +14,13 @@ fn positions_fit(b: &[u8]) -> bool
     requires { ⌜ length (now b) ≡ bookLength ⌝ }
     ensures { λ r. ⌜ r ≡ positionsFit (bookOf (now (b .entry))) ⌝ }
 {
-    if !sound_positions::records_fit(b) {
+    if !sound_positions::room_fits(b) {
         return false;
     }
     if !sound_positions::each_fits(b) {
         return false;
     }
-    if !sound_positions::one_sign(b) {
-        return false;
-    }
-    sound_positions::due_balanced(b)
+    sound_positions::together_fit(b)
 }
 
 pub fn is_sound(b: &[u8]) -> bool
@@ -42,7 +40,7 @@ pub fn is_sound(b: &[u8]) -> bool
     if !sound_tables::holdings_fit(b) {
         return false;
     }
-    if !sound_tables::unlisted_empty(b) {
+    if !sound_tables::records_listed(b) {
         return false;
     }
     if !sound_tables::money_fits(b) {

@@ -5,8 +5,9 @@ use mathlib.Core.Path.{_≡_, refl, sym, ap, _∙_}
 use mathlib.Core.Bool.{true, false}
 use Rattle.rules.specs.Words.{all}
 use Rattle.rules.specs.Layout.{bookOf}
-use Rattle.rules.specs.Sound.{isCode, dayFits, codesFit, holdingsFit, unlistedEmpty, moneyFits}
-use Rattle.soundness.specs.Clauses.{positionsFit, sound-by, positions-records, money-asks}
+use Rattle.rules.specs.Sound.{isCode, dayFits, codesFit, moneyFits}
+use Rattle.sound_tables.specs.Held.{heldFits}
+use Rattle.soundness.specs.Clauses.{positionsFit, recordsListed, sound-by, positions-records, money-asks}
 use Rattle.soundness.proofs.is_sound.Statement.{statement}
 use Rattle.soundness.proofs.is_sound.Tie as tie
 
@@ -32,17 +33,17 @@ positions c = sym (c .before .positions-fit .ensures) ∙ not-false _ (c .if3 .l
 positions-fails : (c : tie.Then3) → positionsFit (bookOf (c .before .before .before .before .before .before .before .before .args .b .now)) ≡ false
 positions-fails c = sym (c .before .positions-fit .ensures) ∙ not-true _ (c .if3 .taken)
 
-holdings : (c : tie.Else4) → holdingsFit (bookOf (c .before .before .before .before .before .before .before .before .before .before .args .b .now)) ≡ true
+holdings : (c : tie.Else4) → heldFits (bookOf (c .before .before .before .before .before .before .before .before .before .before .args .b .now)) ≡ true
 holdings c = sym (c .before .holdings-fit .ensures) ∙ not-false _ (c .if4 .left)
 
-holdings-fails : (c : tie.Then4) → holdingsFit (bookOf (c .before .before .before .before .before .before .before .before .before .before .args .b .now)) ≡ false
+holdings-fails : (c : tie.Then4) → heldFits (bookOf (c .before .before .before .before .before .before .before .before .before .before .args .b .now)) ≡ false
 holdings-fails c = sym (c .before .holdings-fit .ensures) ∙ not-true _ (c .if4 .taken)
 
-unlisted : (c : tie.Else5) → unlistedEmpty (bookOf (c .before .before .before .before .before .before .before .before .before .before .before .before .args .b .now)) ≡ true
-unlisted c = sym (c .before .unlisted-empty .ensures) ∙ not-false _ (c .if5 .left)
+unlisted : (c : tie.Else5) → recordsListed (bookOf (c .before .before .before .before .before .before .before .before .before .before .before .before .args .b .now)) ≡ true
+unlisted c = sym (c .before .records-listed .ensures) ∙ not-false _ (c .if5 .left)
 
-unlisted-fails : (c : tie.Then5) → unlistedEmpty (bookOf (c .before .before .before .before .before .before .before .before .before .before .before .before .args .b .now)) ≡ false
-unlisted-fails c = sym (c .before .unlisted-empty .ensures) ∙ not-true _ (c .if5 .taken)
+unlisted-fails : (c : tie.Then5) → recordsListed (bookOf (c .before .before .before .before .before .before .before .before .before .before .before .before .args .b .now)) ≡ false
+unlisted-fails c = sym (c .before .records-listed .ensures) ∙ not-true _ (c .if5 .taken)
 
 money : (c : tie.Else6) → moneyFits (bookOf (c .before .before .before .before .before .before .before .before .before .before .before .before .before .before .args .b .now)) ≡ true
 money c = sym (c .before .money-fits .ensures) ∙ not-false _ (c .if6 .left)
@@ -79,14 +80,14 @@ holdings-fit-requires c κs = search needs
 returns-4 : tie.Need-returns-4
 returns-4 c = sound-by _ (day (c .before .before .before .before .before .before .before)) (codes (c .before .before .before .before)) (positions (c .before .before)) (holdings-fails c) refl refl refl
 
-unlisted-empty-requires : tie.Need-unlisted-empty-requires
-unlisted-empty-requires c κs = (c .before .before .before .before .before .before .before .before .before .before .pre, positions-records _ (positions (c .before .before)))
+records-listed-requires : tie.Need-records-listed-requires
+records-listed-requires c κs = (c .before .before .before .before .before .before .before .before .before .before .pre, positions-records _ (positions (c .before .before)))
 
 returns-5 : tie.Need-returns-5
 returns-5 c = sound-by _ (day (c .before .before .before .before .before .before .before .before .before)) (codes (c .before .before .before .before .before .before)) (positions (c .before .before .before .before)) (holdings (c .before .before)) (unlisted-fails c) refl refl
 
 money-fits-requires : tie.Need-money-fits-requires
-money-fits-requires c κs = (c .before .before .before .before .before .before .before .before .before .before .before .before .pre, money-asks _ (codes (c .before .before .before .before .before .before)) (positions (c .before .before .before .before)) (unlisted c))
+money-fits-requires c κs = (c .before .before .before .before .before .before .before .before .before .before .before .before .pre, money-asks _ (codes (c .before .before .before .before .before .before)) (positions (c .before .before .before .before)) (holdings (c .before .before)) (unlisted c))
 
 returns-6 : tie.Need-returns-6
 returns-6 c = sound-by _ (day (c .before .before .before .before .before .before .before .before .before .before .before)) (codes (c .before .before .before .before .before .before .before .before)) (positions (c .before .before .before .before .before .before)) (holdings (c .before .before .before .before)) (unlisted (c .before .before)) (money-fails c) refl
@@ -112,7 +113,7 @@ is-sound-spec =
     returns-3
     holdings-fit-requires
     returns-4
-    unlisted-empty-requires
+    records-listed-requires
     returns-5
     money-fits-requires
     returns-6

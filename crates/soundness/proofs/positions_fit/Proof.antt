@@ -2,58 +2,54 @@
 use borrow.Author.Needs.{needs}
 use borrow.Author.Tests.{not-true, not-false}
 use mathlib.Core.Path.{_≡_, refl, sym, _∙_}
-use mathlib.Core.Bool.{true}
+use mathlib.Core.Bool.{true, _&&_}
+use Rattle.rules.specs.Book.{openOf}
 use Rattle.rules.specs.Layout.{bookOf}
-use Rattle.rules.specs.Sound.{recordsFit}
-use Rattle.sound_positions.specs.Table.{records-within}
-use Rattle.sound_positions.specs.Each.{eachFits}
-use Rattle.soundness.specs.Clauses.{positions-by, each-sizes}
+use Rattle.rules.specs.Sound.{ascends}
+use Rattle.laws.specs.Cases.{both-hold}
+use Rattle.sound_positions.specs.Each.{eachFits, roomFits, room-within}
+use Rattle.soundness.specs.Clauses.{positions-by}
 use Rattle.soundness.proofs.positions_fit.Statement.{statement}
 use Rattle.soundness.proofs.positions_fit.Tie as tie
 
 -- ── a test that was passed ──
 
-records : (c : tie.Else1) → recordsFit (bookOf (c .before .before .before .args .b .now)) ≡ true
-records c = sym (c .before .records-fit .ensures) ∙ not-false _ (c .if1 .left)
+room : (c : tie.Else1) → roomFits (bookOf (c .before .before .before .args .b .now)) ≡ true
+room c = sym (c .before .room-fits .ensures) ∙ not-false _ (c .if1 .left)
 
-each : (c : tie.Else2) → eachFits (bookOf (c .before .before .before .before .before .args .b .now)) ≡ true
+each : (c : tie.Else2) → ascends (openOf (bookOf (c .before .before .before .before .before .args .b .now))) && eachFits (bookOf (c .before .before .before .before .before .args .b .now)) ≡ true
 each c = sym (c .before .each-fits .ensures) ∙ not-false _ (c .if2 .left)
 
 -- ── the needs ──
 
-records-fit-requires : tie.Need-records-fit-requires
-records-fit-requires c κs = search needs
+room-fits-requires : tie.Need-room-fits-requires
+room-fits-requires c κs = search needs
 
 returns : tie.Need-returns
-returns c = positions-by _ (sym (c .before .records-fit .ensures) ∙ not-true _ (c .if1 .taken)) refl refl refl
+returns c = positions-by (bookOf (c .before .before .before .args .b .now)) (sym (c .before .room-fits .ensures) ∙ not-true _ (c .if1 .taken)) refl refl
 
 each-fits-requires : tie.Need-each-fits-requires
-each-fits-requires c κs = (c .before .before .before .pre, records-within _ (records c))
+each-fits-requires c κs = (c .before .before .before .pre, room-within (bookOf (c .before .before .before .args .b .now)) (room c))
 
 returns-2 : tie.Need-returns-2
-returns-2 c = positions-by _ (records (c .before .before)) (sym (c .before .each-fits .ensures) ∙ not-true _ (c .if2 .taken)) refl refl
+returns-2 c =
+    positions-by (bookOf (c .before .before .before .before .before .args .b .now)) (room (c .before .before)) (sym (c .before .each-fits .ensures) ∙ not-true _ (c .if2 .taken)) refl
 
-one-sign-requires : tie.Need-one-sign-requires
-one-sign-requires c κs = (c .before .before .before .before .before .pre, records-within _ (records (c .before .before)))
+together-fit-requires : tie.Need-together-fit-requires
+together-fit-requires c κs =
+    let k = bookOf (c .before .before .before .before .before .args .b .now) in
+    (c .before .before .before .before .before .pre, (room-within k (room (c .before .before)), both-hold (ascends (openOf k)) (eachFits k) (each c) .1))
 
 returns-3 : tie.Need-returns-3
-returns-3 c = positions-by _ (records (c .before .before .before .before)) (each (c .before .before)) (sym (c .before .one-sign .ensures) ∙ not-true _ (c .if3 .taken)) refl
-
-due-balanced-requires : tie.Need-due-balanced-requires
-due-balanced-requires c κs = (c .before .before .before .before .before .before .before .pre, (records-within _ (records (c .before .before .before .before)), each-sizes _ (each (c .before .before))))
-
-returns-4 : tie.Need-returns-4
-returns-4 c = c .due-balanced .ensures ∙ positions-by _ (records (c .before .before .before .before .before)) (each (c .before .before .before)) (sym (c .before .before .one-sign .ensures) ∙ not-false _ (c .before .if3 .left)) refl
+returns-3 c = c .together-fit .ensures ∙ positions-by (bookOf (c .before .before .before .before .before .before .args .b .now)) (room (c .before .before .before)) (each (c .before)) refl
 
 pub positions-fit-spec : {M : Type 1} → statement M
 positions-fit-spec =
     tie.close
     (tie.spec
-    records-fit-requires
+    room-fits-requires
     returns
     each-fits-requires
     returns-2
-    one-sign-requires
-    returns-3
-    due-balanced-requires
-    returns-4)
+    together-fit-requires
+    returns-3)

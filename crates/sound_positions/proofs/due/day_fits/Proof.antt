@@ -4,15 +4,15 @@ use Rattle.rules.specs.Sound.{dueFits}
 use Rattle.sound_positions.proofs.due.day_fits.Statement.{statement}
 use Rattle.sound_positions.proofs.due.day_fits.Tie as tie
 
-due-of-requires : tie.Need-due-of-requires
-due-of-requires c κs = search needs
+add-due-by : tie.Need-add-due-by
+add-due-by c = search needs
 
-add-result : tie.Need-add-result
-add-result c = search needs
+due-by-requires : tie.Need-due-by-requires
+due-by-requires c κs = search needs
 
 returns : tie.Need-returns
 unfolding dueFits
-returns c = rw (c .due-of .ensures)
+returns c = c .due-by .ensures
 
 pub day-fits-spec : {M : Type 1} → statement M
-day-fits-spec = tie.close (tie.spec due-of-requires add-result returns)
+day-fits-spec = tie.close (tie.spec add-due-by due-by-requires returns)

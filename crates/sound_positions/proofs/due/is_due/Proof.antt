@@ -4,12 +4,12 @@ use Rattle.rules.specs.Sound.{isDue}
 use Rattle.sound_positions.proofs.due.is_due.Statement.{statement}
 use Rattle.sound_positions.proofs.due.is_due.Tie as tie
 
-due-of-requires : tie.Need-due-of-requires
-due-of-requires c κs = search needs
+due-by-requires : tie.Need-due-by-requires
+due-by-requires c κs = search needs
 
 returns : tie.Need-returns
 unfolding isDue
-returns c = rw (c .due-of .ensures)
+returns c = c .due-by .ensures
 
 pub is-due-spec : {M : Type 1} → statement M
-is-due-spec = tie.close (tie.spec due-of-requires returns)
+is-due-spec = tie.close (tie.spec due-by-requires returns)

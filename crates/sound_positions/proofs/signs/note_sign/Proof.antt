@@ -2,6 +2,7 @@
 use borrow.Author.Needs.{needs}
 use mathlib.Core.Path.{sym, _∙_}
 use borrow.Author.Tests.{not-true, not-false}
+use Rattle.sound_positions.specs.Each.{due-nonzero}
 use Rattle.sound_positions.proofs.signs.note_sign.Statement.{statement}
 use Rattle.sound_positions.proofs.signs.note_sign.Tie as tie
 
@@ -15,7 +16,8 @@ place-of-requires : tie.Need-place-of-requires
 place-of-requires c κs = search needs
 
 sign-of-requires : tie.Need-sign-of-requires
-sign-of-requires c κs = search needs
+sign-of-requires c κs =
+    due-nonzero _ _ (c .before .before .before .pre) (sym (c .before .before .is-due .ensures) ∙ not-false _ (c .before .if1 .left))
 
 element-write-seen : tie.Need-element-write-seen
 element-write-seen c = search needs

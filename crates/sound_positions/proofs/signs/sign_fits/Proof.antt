@@ -2,6 +2,7 @@
 use borrow.Author.Needs.{needs}
 use mathlib.Core.Path.{sym, _∙_}
 use borrow.Author.Tests.{eq-eqb, ne-eqb, not-true, not-false}
+use Rattle.sound_positions.specs.Each.{due-nonzero}
 use Rattle.sound_positions.specs.OneSign.{fits}
 use Rattle.sound_positions.proofs.signs.sign_fits.Statement.{statement}
 use Rattle.sound_positions.proofs.signs.sign_fits.Tie as tie
@@ -16,7 +17,8 @@ place-of-requires : tie.Need-place-of-requires
 place-of-requires c κs = search needs
 
 sign-of-requires : tie.Need-sign-of-requires
-sign-of-requires c κs = search needs
+sign-of-requires c κs =
+    due-nonzero _ _ (c .before .before .before .pre) (sym (c .before .before .is-due .ensures) ∙ not-false _ (c .before .if1 .left))
 
 element-copy-out-old : tie.Need-element-copy-out-old
 element-copy-out-old c = search needs
