@@ -15,6 +15,7 @@ use Rattle.rules.specs.Words.{all}
 use Rattle.rules.specs.Bounds.{lastDay, mostRecords, mostTrades}
 use Rattle.rules.specs.Book.{quantityOf, moneyOf, isZero, noPosition, openOf, listOf, withOpen, withList, withCharges, withDay}
 use Rattle.rules.specs.Sound.{sound, dayFits, recordsFit, ascends, isBlank, isPosition, tradesFit}
+use Rattle.rules.specs.Nets.{nets}
 use Rattle.rules.specs.Roll.{uncharged, netted, emptied, nextDay, openPlusNets}
 use Rattle.rules.specs.declared.Position.{Position}
 use Rattle.rules.specs.declared.Trade.{Trade}
@@ -22,6 +23,7 @@ use Rattle.rules.specs.declared.Book.{Book}
 use Rattle.laws.specs.Cases.{both-hold, is-zero}
 use Rattle.laws.specs.SoundParts.{sound-parts}
 use Rattle.laws.specs.Rolling.{rolling, newNets}
+use Rattle.laws.specs.QuietRoll.{no-nets}
 use Rattle.sound_positions.specs.Table.{records-within}
 use Rattle.netting.specs.Pairs.{pairNet, netsTo, nets-to-none, nets-to-more, nets-to-same, nets-pairs}
 
@@ -156,3 +158,18 @@ module _ (k : Book) (ok : sound k ≡ true) (long : length (k .positions) ≡ mo
             ∙ ap₂ (λ (l : List Position) (n : ℕ). (openOf k ++ l) ++ replicate (mostRecords - n) noPosition) all-found room
             ∙ sym rolling-rows,
       )
+
+  -- an empty list has no nets
+  pub filled-empty : k .entries ≡ 0 → (k .records ≡ openPlusNets k) × (openPlusNets k ≤ mostRecords → k .positions ≡ rolling k .positions)
+  unfolding listOf
+  filled-empty e =
+      let due = k .day + 2 in
+      let no-trade : listOf k ≡ [] = ap (λ (n : ℕ). take n (k .trades)) e in
+      let none : netsTo due (listOf k) 2_048 ≡ netsTo due (listOf k) 0 = sym (nets-pairs due (listOf k)) ∙ ap (nets due) no-trade ∙ no-nets due ∙ sym (nets-to-none due (listOf k)) in
+      filled-all 2_048 (k .records) (k .positions) (omega arith)
+      (record {
+        pairs = omega arith;
+        few = omega (arith, filled-none .few);
+        counted = rw none (filled-none .counted);
+        filled = rw none (filled-none .filled);
+      })

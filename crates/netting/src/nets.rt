@@ -25,7 +25,7 @@ fn is_position(p: Position) -> bool
 
 // One pass over the 2,048 pairs of account and security, by account, then security: by ascending number. The count goes
 // on where the table is full, so that one pass also answers refusal 10.
-pub fn with_nets(k: Book) -> Netted
+fn walked_nets(k: Book) -> Netted
     requires { ⌜ sound k ≡ true ⌝ }
     ensures { λ r. ⌜ (r .count ≡ openPlusNets k) × (openPlusNets k ≤ mostRecords → r .positions ≡ rolling k .positions) ⌝ }
 {
@@ -54,4 +54,19 @@ pub fn with_nets(k: Book) -> Netted
         count: total,
         positions: positions,
     }
+}
+
+// An empty list has no nets, and the table stays as it is.
+pub fn with_nets(k: Book) -> Netted
+    requires { ⌜ sound k ≡ true ⌝ }
+    ensures { λ r. ⌜ (r .count ≡ openPlusNets k) × (openPlusNets k ≤ mostRecords → r .positions ≡ rolling k .positions) ⌝ }
+{
+    if k.entries == 0 {
+        let positions = k.positions;
+        return Netted {
+            count: k.records,
+            positions: positions,
+        };
+    }
+    walked_nets(k)
 }

@@ -1,16 +1,43 @@
 -- One newly due record and one older one, as the code has them: the two records, and the charge of their account and currency.
 use mathlib.Core.Bool.{true, false, cond}
 use mathlib.Core.Path.{_≡_, sym, ap, _∙_}
-use Prim.Native.Nat.{ℕ, _+_, _<_, _≤_, _^_}
+use Prim.Native.Nat.{ℕ, _+_, _/_, _%_, _<_, _≤_, _^_}
+use native.Mathlib.Omega.{arith}
+use lib.Dec.{eqb}
 use lib.IntN.{natAbs, _+ℤ_}
+use borrow.Author.Tests.{eq-eqb, eqb-true, eqb-false}
 use Rattle.units.specs.Units.{milsOf, mils, mostShares, mostMils}
 use Rattle.units.specs.declared.Mils.{Mils}
-use Rattle.rules.specs.Book.{quantityOf, moneyOf}
+use Rattle.rules.specs.Book.{quantityOf, moneyOf, accountOf, securityOf}
+use Rattle.rules.specs.Sound.{samePair}
 use Rattle.rules.specs.Parts.{partMoney, without}
 use Rattle.rules.specs.Roll.{faces, smaller}
 use Rattle.rules.specs.declared.Position.{Position}
-use Rattle.laws.specs.Cases.{cond-yes, cond-no}
+use Rattle.laws.specs.Cases.{by-test, and-hold, cond-yes, cond-no}
 use Rattle.offsetting.specs.declared.meetings.Met.{Met}
+
+-- ── one account and one security ──
+
+-- what a position's number says of them, in one comparison
+pub pair-same : (p o : Position) → eqb (p .number % 2_048) (o .number % 2_048) ≡ samePair p o
+unfolding samePair accountOf securityOf
+pair-same p o =
+    let m = p .number in
+    let n = o .number in
+    by-test (eqb (m % 2_048) (n % 2_048))
+    (λ e. let h = eqb-true (m % 2_048) (n % 2_048) e in
+    e ∙ sym (and-hold (eq-eqb (m / 32 % 64) (n / 32 % 64) (omega arith)) (eq-eqb (m % 32) (n % 32) (omega arith))))
+    (λ e. let h = eqb-false (m % 2_048) (n % 2_048) e in
+    by-test (eqb (m / 32 % 64) (n / 32 % 64))
+    (λ a. by-test (eqb (m % 32) (n % 32))
+    (λ s. absurd (h (same-low m n (eqb-true (m / 32 % 64) (n / 32 % 64) a) (eqb-true (m % 32) (n % 32) s))))
+    (λ s. rw (e, a, s)))
+    (λ a. rw (e, a)))
+  where
+    same-low : (m n : ℕ) → m / 32 % 64 ≡ n / 32 % 64 → m % 32 ≡ n % 32 → m % 2_048 ≡ n % 2_048
+    same-low m n a s = omega arith
+
+-- ── a meeting ──
 
 -- the smaller quantity is taken from both, each part's money is charged: the older one's first
 unfoldable pub metOf : Mils → Position → Position → ℕ → Met

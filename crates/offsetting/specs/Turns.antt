@@ -1,7 +1,7 @@
 -- The turns of the walk as the code makes them: one row and its charge, then another. What is left to do decides: from here it comes to
 -- what the whole walk comes to.
 use mathlib.Core.Path.{_≡_, sym, ap, ap₂, _∙_}
-use mathlib.Core.Bool.{true, cond}
+use mathlib.Core.Bool.{true, false, cond}
 use mathlib.Core.List.{List}
 use Prim.Native.Nat.{ℕ, _+_, _-_, _<_}
 use native.Mathlib.Omega.{arith}
@@ -12,6 +12,7 @@ use Rattle.units.specs.Units.{milsOf, mils}
 use Rattle.units.specs.declared.Mils.{Mils}
 use Rattle.rules.specs.Book.{quantityOf, moneyOf, isZero, accountOf, securityOf, noPosition, currencyOf, chargeAt, charged}
 use Rattle.rules.specs.Parts.{partMoney, without, chargedTo, chargedBoth}
+use Rattle.rules.specs.Sound.{samePair}
 use Rattle.rules.specs.Roll.{faces, smaller}
 use Rattle.rules.specs.declared.Position.{Position}
 use Rattle.rules.specs.declared.Book.{Book}
@@ -114,6 +115,11 @@ module _ (b : Book) (n : ℕ) (ps : List Position) (cs : List Mils) (i at : ℕ)
       ∙ ap (λ (m : Met). walking (set (set (take n ps) j (m .older)) i (m .newly)) (set cs at (m .charge))) same
       ∙ ap (λ (l : List Position). walking l (set cs at (r .charge)))
       (ap (λ (l : List Position). set l i (r .newly)) (sym (take-set-lt n ps j (r .older) hj)) ∙ sym (take-set-lt n (set ps j (r .older)) i (r .newly) hi))
+
+  -- rows of other accounts or securities pass each other
+  pub table-passes : (j : ℕ) → j < n → samePair (row ps i) (row ps j) ≡ false → meet b i j (walking (take n ps) cs) ≡ walking (take n ps) cs
+  unfolding meet faces
+  table-passes j hj e = rw (newly-row, getD-take n ps j noPosition hj, e)
 
   pub table-charged : (c : Mils) → c ≡ cond (isZero (quantityOf (row ps i))) (mils (milsOf (chargeOf cs at) +ℤ moneyOf (row ps i))) (chargeOf cs at)
       → whole b i (walking (take n ps) cs) ≡ walking (take n ps) (set cs at c)

@@ -4,8 +4,6 @@
 use parts::rest_of;
 use parts::with_part;
 use rules::Position;
-use sound_positions::account_of;
-use sound_positions::security_of;
 use units::Mils;
 use units::Shares;
 ghost use mathlib.Core.Path.{_≡_};
@@ -25,13 +23,11 @@ pub struct Met {
     pub charge: Mils,
 }
 
-fn same_pair(p: Position, o: Position) -> bool
+// One account and one security: their numbers differ by due days only.
+pub fn same_pair(p: Position, o: Position) -> bool
     ensures { λ r. ⌜ r ≡ samePair p o ⌝ }
 {
-    if account_of(p) != account_of(o) {
-        return false;
-    }
-    security_of(p) == security_of(o)
+    p.number % 2048 == o.number % 2048
 }
 
 fn is_opposite(p: Position, o: Position) -> bool

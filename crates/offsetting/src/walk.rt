@@ -1,6 +1,7 @@
 // "Due positions are offset": each newly due record, by ascending number, meets the older ones, by ascending number.
 use crate::borders::due_before;
 use crate::meetings::meeting;
+use crate::meetings::same_pair;
 use crate::meetings::with_whole;
 use parts::place_of;
 use parts::remaining;
@@ -21,7 +22,8 @@ struct Tables {
 }
 
 // The first `older` rows are due before the day, those behind them up to row `due` on the day. One pass over the
-// older rows for each newly due one, and no table is copied on the way.
+// older rows for each newly due one, and no table is copied on the way; nothing is written for most of them, which are
+// of other accounts and securities.
 fn offset_rows(b: Book, older: usize, due: usize) -> Tables
     requires { ⌜ WalkAsks b older due ⌝ }
     ensures { λ r. ⌜ inUse (b .records) r ≡ allMet b ⌝ }
@@ -37,8 +39,12 @@ fn offset_rows(b: Book, older: usize, due: usize) -> Tables
         let mut left = older;
         'older: while 0 < left {
             let j = older - left;
+            left -= 1;
             let p = positions[i];
             let o = positions[j];
+            if !same_pair(p, o) {
+                continue 'older;
+            }
             let m = meeting(charges[at], p, o);
             let met = m.older;
             let rest = m.newly;
@@ -46,7 +52,6 @@ fn offset_rows(b: Book, older: usize, due: usize) -> Tables
             positions[j] = met;
             positions[i] = rest;
             charges[at] = charge;
-            left -= 1;
         }
         i += 1;
     }

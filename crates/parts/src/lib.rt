@@ -7,6 +7,5 @@ mod taking;
 pub use packing::Packed;
 pub use packing::remaining;
 pub use places::place_of;
-pub use taking::part_of;
 pub use taking::rest_of;
 pub use taking::with_part;

@@ -12,7 +12,7 @@ ghost use Rattle.rules.specs.Book.{quantityOf, moneyOf};
 ghost use Rattle.rules.specs.Parts.{partMoney, without};
 
 // The money of k of a record's shares.
-pub fn part_of(p: Position, k: Shares) -> Mils
+fn part_of(p: Position, k: Shares) -> Mils
     requires { ⌜ PartAsks (moneyOf p) (quantityOf p) (natAbs (sharesOf k)) ⌝ }
     ensures { λ r. ⌜ (milsOf r ≡ partMoney p (natAbs (sharesOf k))) × (natAbs (milsOf r) ≤ natAbs (moneyOf p)) ⌝ }
 {

@@ -6,6 +6,7 @@ use Prim.Native.Nat.{ℕ, _-_, _<_, _≤_}
 use native.Mathlib.Omega.{arith}
 use lib.ListN.{length, take, set}
 use lib.Seq.{getD-take, length-take-le}
+use borrow.Author.Tests.{not-true}
 use Rattle.fields.specs.Lengths.{unmapped}
 use Rattle.rules.specs.Book.{openOf, noPosition, securityOf, currencyOf, chargeAt}
 use Rattle.rules.specs.Bounds.{currencies}
@@ -13,7 +14,7 @@ use Rattle.rules.specs.declared.Position.{Position}
 use Rattle.rules.specs.declared.Book.{Book}
 use Rattle.laws.specs.Rows.{row}
 use Rattle.offsetting.specs.Walk.{Walking, walking, pass, whole}
-use Rattle.offsetting.specs.Turns.{placeOf, table-meets, table-charged}
+use Rattle.offsetting.specs.Turns.{placeOf, table-meets, table-passes, table-charged}
 use Rattle.offsetting.specs.Loops.{Inner, table-asks, inner-next, Outer, outer-currency, outer-room, inner-start, outer-next, outer-done, due-few, outer-start}
 use Rattle.offsetting.proofs.walk.offset_rows.Statement.{statement}
 use Rattle.offsetting.proofs.walk.offset_rows.Tie as tie
@@ -172,6 +173,9 @@ stands c =
 sub-j : tie.Need-sub-j Inv-older μ-older Inv-newly μ-newly
 sub-j c = omega (arith, stands c)
 
+sub-left : tie.Need-sub-left Inv-older μ-older Inv-newly μ-newly
+sub-left c = c .older-test .taken
+
 mul-p : tie.Need-mul-p Inv-older μ-older Inv-newly μ-newly
 mul-p c = omega (arith, in-table (outside c))
 
@@ -184,46 +188,61 @@ mul-o c = omega (arith, stands (c .before))
 array-copy-out-o : tie.Need-array-copy-out-o Inv-older μ-older Inv-newly μ-newly
 array-copy-out-o c = omega (arith, stands (c .before))
 
+same-pair-requires : tie.Need-same-pair-requires Inv-older μ-older Inv-newly μ-newly
+same-pair-requires c κs = search needs
+
+older-less : tie.Need-older-less Inv-older μ-older Inv-newly μ-newly
+older-less c = omega (arith, c .before .before .before .before .older-test .taken)
+
+-- rows of other accounts or securities
+older-again : tie.Need-older-again Inv-older μ-older Inv-newly μ-newly
+older-again c =
+    let l = c .before .before .before .before in
+    let o = l .before .older in
+    inner-next (book l) (older l) (i l) (at l) (o .left) (inner l) _ (stands l .few) (in-use (outside l)) (o .inv) (stands l .behind) (stands l .some) _
+    (table-passes (book l) (book l .records) (o .positions) (o .charges) (i l) (at l) (in-use (outside l)) (o .inv .place) (omega (arith, o .inv .held .wide, at-below l))
+    (j l) (omega (arith, stands l)) (sym (c .before .same-pair .ensures) ∙ not-true _ (c .if1 .taken)))
+
+abbrev meets : tie.After-charge Inv-older μ-older Inv-newly μ-newly → tie.In-older Inv-older μ-older Inv-newly μ-newly
+meets c = c .before .before .before .before .before .before .before .before .before
+
 mul-meeting : tie.Need-mul-meeting Inv-older μ-older Inv-newly μ-newly
-mul-meeting c = omega (arith, at-below (c .before .before))
+mul-meeting c = omega (arith, at-below (c .before .before .before .before))
 
 array-copy-out-meeting : tie.Need-array-copy-out-meeting Inv-older μ-older Inv-newly μ-newly
-array-copy-out-meeting c = at-below (c .before .before)
+array-copy-out-meeting c = at-below (c .before .before .before .before)
 
 meeting-requires : tie.Need-meeting-requires Inv-older μ-older Inv-newly μ-newly
 meeting-requires c κs =
-    let l = c .before .before .before in
+    let l = c .before .before .before .before .before in
     let o = l .before .older in
     table-asks (book l) (older l) (i l) (at l) (o .left) (o .positions) (o .charges) _ (stands l .few) (in-use (outside l)) (o .inv) _ (omega (arith, stands l))
 
 mul-positions : tie.Need-mul-positions Inv-older μ-older Inv-newly μ-newly
-mul-positions c = omega (arith, stands (c .before .before .before .before .before .before .before))
+mul-positions c = omega (arith, stands (meets c))
 
 array-set-from-positions : tie.Need-array-set-from-positions Inv-older μ-older Inv-newly μ-newly
-array-set-from-positions c = omega (arith, stands (c .before .before .before .before .before .before .before))
+array-set-from-positions c = omega (arith, stands (meets c))
 
 mul-positions-2 : tie.Need-mul-positions-2 Inv-older μ-older Inv-newly μ-newly
-mul-positions-2 c = omega (arith, in-table (outside (c .before .before .before .before .before .before .before)))
+mul-positions-2 c = omega (arith, in-table (outside (meets c)))
 
 array-set-from-positions-2 :
     tie.Need-array-set-from-positions-2 Inv-older μ-older Inv-newly μ-newly
-array-set-from-positions-2 c = in-table (outside (c .before .before .before .before .before .before .before))
+array-set-from-positions-2 c = in-table (outside (meets c))
 
 mul-charges-2 : tie.Need-mul-charges-2 Inv-older μ-older Inv-newly μ-newly
-mul-charges-2 c = omega (arith, at-below (c .before .before .before .before .before .before .before))
+mul-charges-2 c = omega (arith, at-below (meets c))
 
 array-set-from-charges-2 : tie.Need-array-set-from-charges-2 Inv-older μ-older Inv-newly μ-newly
-array-set-from-charges-2 c = at-below (c .before .before .before .before .before .before .before)
+array-set-from-charges-2 c = at-below (meets c)
 
-sub-left : tie.Need-sub-left Inv-older μ-older Inv-newly μ-newly
-sub-left c = c .before .before .before .before .before .before .before .older-test .taken
+older-less-2 : tie.Need-older-less-2 Inv-older μ-older Inv-newly μ-newly
+older-less-2 c = omega (arith, meets c .older-test .taken)
 
-older-less : tie.Need-older-less Inv-older μ-older Inv-newly μ-newly
-older-less c = omega (arith, c .before .before .before .before .before .before .before .older-test .taken)
-
-older-again : tie.Need-older-again Inv-older μ-older Inv-newly μ-newly
-older-again c =
-    let l = c .before .before .before .before .before .before .before in
+older-again-2 : tie.Need-older-again-2 Inv-older μ-older Inv-newly μ-newly
+older-again-2 c =
+    let l = meets c in
     let o = l .before .older in
     inner-next (book l) (older l) (i l) (at l) (o .left) (inner l) _ (stands l .few) (in-use (outside l)) (o .inv) (stands l .behind) (stands l .some) _
     (table-meets (book l) (book l .records) (o .positions) (o .charges) (i l) (at l) (in-use (outside l)) (o .inv .place) (omega (arith, o .inv .held .wide, at-below l))
@@ -268,10 +287,14 @@ offset-rows-spec =
     array-set-from-charges
     older-holds
     sub-j
+    sub-left
     mul-p
     array-copy-out-p
     mul-o
     array-copy-out-o
+    same-pair-requires
+    older-less
+    older-again
     mul-meeting
     array-copy-out-meeting
     meeting-requires
@@ -281,9 +304,8 @@ offset-rows-spec =
     array-set-from-positions-2
     mul-charges-2
     array-set-from-charges-2
-    sub-left
-    older-less
-    older-again
+    older-less-2
+    older-again-2
     add-i
     newly-less
     newly-again
