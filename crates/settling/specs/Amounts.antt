@@ -1,5 +1,5 @@
--- What a record owes and wants, by its due day, its security and its sign; what stays on it when a part goes; and a holding that is lowered.
-use mathlib.Core.Path.{_≡_, refl, ap, _∙_}
+-- What a record owes and wants, by its due day, its security and its sign; and a holding that is lowered.
+use mathlib.Core.Path.{_≡_, refl}
 use mathlib.Core.Bool.{true, false}
 use mathlib.Core.List.{List}
 use Prim.Native.Nat.{ℕ, _≤_, _<_}
@@ -7,14 +7,9 @@ use native.Mathlib.Omega.{arith}
 use native.Mathlib.Decide.{ℕ-discrete, decLt}
 use lib.ListN.{length, getD, set}
 use lib.Seq.{getD-set-same, getD-set-other, set-out}
-use lib.IntN.{ℤ, pos, negsuc, natAbs, _-ℤ_}
-use Rattle.integers.specs.Signs.{isNegative, towardZero}
-use Rattle.units.specs.Units.{sharesOf, milsOf, shares, mils}
-use Rattle.units.specs.Part.{partOf}
-use Rattle.units.specs.declared.Shares.{Shares}
-use Rattle.units.specs.declared.Mils.{Mils}
-use Rattle.rules.specs.Book.{quantityOf, moneyOf}
-use Rattle.rules.specs.Parts.{partMoney, without}
+use lib.IntN.{ℤ, pos, negsuc, natAbs}
+use Rattle.integers.specs.Signs.{isNegative}
+use Rattle.rules.specs.Book.{quantityOf}
 use Rattle.rules.specs.Run.{shortOf, longOf}
 use Rattle.rules.specs.declared.Position.{Position}
 use Rattle.laws.specs.Cases.{true-false}
@@ -69,16 +64,6 @@ module _ (d s : ℕ) (p : Position) where
     pub wants-short : isNegative (quantityOf p) ≡ true → 0 ≡ wants d s p
     unfolding wants
     wants-short e = rw due (long-no (quantityOf p) e)
-
--- ── what stays on a record, as the code makes it ──
-
-pub rest-is : (p : Position) (k : ℕ) (q : Shares) (gone m : Mils) → sharesOf q ≡ towardZero (quantityOf p) k
-    → milsOf gone ≡ partOf (moneyOf p) (quantityOf p) k → milsOf m ≡ moneyOf p -ℤ milsOf gone
-    → _≡_ {A = Position} (record { number = p .number; quantity = q; money = m }) (without p k)
-unfolding without partMoney
-rest-is p k q gone m eq eg em =
-    let e : milsOf m ≡ moneyOf p -ℤ partOf (moneyOf p) (quantityOf p) k = em ∙ ap (λ (z : ℤ). moneyOf p -ℤ z) eg in
-    λ i. record { number = p .number; quantity = shares (eq i); money = mils (e i) }
 
 -- ── one holding is lowered: none is higher ──
 

@@ -1,13 +1,13 @@
 -- The charges of a meeting, as the code makes them: both records' parts, each at the place of its account and currency.
 use mathlib.Core.Path.{_≡_, ap, _∙_}
 use mathlib.Core.List.{List}
-use Prim.Native.Nat.{ℕ, _+_, _*_, _<_, _≤_}
+use Prim.Native.Nat.{ℕ, _+_, _*_, _<_, _≤_, _^_}
 use native.Mathlib.Omega.{arith}
 use native.Mathlib.Decide.{ℕ-discrete, decLt}
 use lib.ListN.{length, getD, set}
 use lib.Seq.{getD-set-same, getD-set-other, set-out}
 use lib.IntN.{ℤ, pos, natAbs, _+ℤ_}
-use Rattle.units.specs.Units.{milsOf, mils}
+use Rattle.units.specs.Units.{milsOf, mils, mostMils}
 use Rattle.units.specs.PartLaws.{PartAsks}
 use Rattle.units.specs.declared.Mils.{Mils}
 use Rattle.rules.specs.Bounds.{mostAtStake}
@@ -47,3 +47,27 @@ set-within cs i v n h x a = go (ℕ-discrete x i) (decLt i (length cs))
     go (yes e) (yes l) = rw e (rw (getD-set-same cs i v (mils (pos 0)) l) h)
     go (yes e) (no l) = rw (set-out cs i v (omega arith)) a
     go (no e) l = rw (getD-set-other cs i x v (mils (pos 0)) e) a
+
+-- ── both records of a meeting ──
+
+module _ (cs : List Mils) (codes : List ℕ) (p q : Position) (k : ℕ) (a : ChargeAsks cs codes p q k) (x : ℕ) (hx : x < 256) where
+  pub first-fits : natAbs (milsOf (getD cs x (mils (pos 0)))) + natAbs (moneyOf p) < 2 ^ 63
+  first-fits = omega (arith, a .within x hx, a .giver .money)
+
+  module _ (v : Mils) (small : natAbs (milsOf v) ≤ natAbs (milsOf (getD cs x (mils (pos 0)))) + natAbs (moneyOf p)) (y : ℕ) (hy : y < 256) where
+    pub second-fits : natAbs (milsOf (getD (set cs x v) y (mils (pos 0)))) + natAbs (moneyOf q) < 2 ^ 63
+    second-fits =
+        omega (
+          arith,
+          a .receiver .money,
+          set-within cs x v (mostAtStake + mostMils) (omega (arith, a .within x hx, a .giver .money)) y (omega (arith, a .within y hy)),
+        )
+
+-- the giver's charge is set, then the receiver's
+pub both-charged : (cs : List Mils) (codes : List ℕ) (p q : Position) (k x y : ℕ) (v w : Mils)
+    → x ≡ accountOf p * 4 + getD codes (securityOf p) 0 → milsOf v ≡ milsOf (getD cs x (mils (pos 0))) +ℤ partMoney p k
+    → y ≡ accountOf q * 4 + getD codes (securityOf q) 0 → milsOf w ≡ milsOf (getD (set cs x v) y (mils (pos 0))) +ℤ partMoney q k
+    → set (set cs x v) y w ≡ chargedParts cs codes p q k
+unfolding chargedParts
+both-charged cs codes p q k x y v w ex ev ey ew =
+    charged-is (set cs x v) codes q k y w ey ew ∙ ap (λ (l : List Mils). chargedPart l codes q k) (charged-is cs codes p k x v ex ev)

@@ -2,7 +2,7 @@
 -- nothing is left to give.
 use mathlib.Core.Path.{_≡_, refl, sym, ap, _∙_, subst}
 use mathlib.Core.Bool.{Bool, true, false, _&&_}
-use Prim.Native.Nat.{ℕ, _+_, _-_, _/_, _%_, _<_, _≤_}
+use Prim.Native.Nat.{ℕ, _+_, _-_, _/_, _%_, min, _<_, _≤_}
 use native.Mathlib.Omega.{arith}
 use lib.Dec.{leb}
 use lib.ListN.{length, getD, take, length-take}
@@ -25,10 +25,10 @@ use Rattle.laws.specs.Rows.{row}
 use Rattle.laws.specs.Taking.{without-size, without-sizes}
 use Rattle.laws.specs.Charging.{chargeIn, weight, open-money}
 use Rattle.laws.specs.Numbers.{account-below}
-use Rattle.laws.specs.Walk.{Walking, owes, metAt, search, walked}
+use Rattle.laws.specs.Walk.{Walking, owes, wants, leftToGive, metAt, search, walked}
 use Rattle.laws.specs.WalkIsRun.{unwalked}
 use Rattle.laws.specs.SoundParts.{sound-parts}
-use Rattle.laws.specs.SoundRun.{sound-moved}
+use Rattle.laws.specs.SoundRun.{sound-runnable, sound-moved}
 use Rattle.laws.specs.Shaped.{Shaped}
 use Rattle.laws.specs.Stakes.{stake-within}
 use Rattle.laws.specs.Totals.{held-part}
@@ -37,7 +37,8 @@ use Rattle.laws.specs.RunKeeps.{Loses, Meets, Steady, steady-met}
 use Rattle.laws.specs.RunLeaves.{room, end-shares, met-pass}
 use Rattle.laws.specs.RunHoldings.{met-total}
 use Rattle.laws.specs.RunMoney.{met-weight}
-use Rattle.settling.specs.Steps.{inner-rest, outer-rest, rest-skip, rest-enter, rest-leave, rest-none, rest-same}
+use Rattle.settling.specs.Passing.{Full, Apart, full-more, apart-start}
+use Rattle.settling.specs.Steps.{inner-rest, outer-rest, rest-enter, rest-full, rest-spent, rest-leave, rest-none, rest-same}
 use Rattle.settling.specs.declared.walk.Walked.{Walked}
 
 -- the tables of the code, of which n rows are in use, as a walk that has given what is no longer left of `whole`
@@ -88,24 +89,28 @@ part-asks b s p k h e =
 
 -- ── what the two loops keep ──
 
-pub record Outer (b : Book) (s whole g : ℕ) (t : Walked) : Type 0 where
-  pub row : g ≤ b .records
+-- between two givers: the rows before g have given what they can, those before r want nothing more
+pub record Outer (b : Book) (s whole g r : ℕ) (t : Walked) : Type 0 where
+  pub giver : g ≤ b .records
+  pub receiver : r ≤ b .records
   pub some : t .left ≤ whole
   pub ready : Ready b (walking (b .records) whole t)
+  pub apart : Apart (b .day) s (take (b .records) (t .positions))
+  pub full : Full (b .day) s (take (b .records) (t .positions)) r
   pub rest : outer-rest b s g (walking (b .records) whole t) ≡ walked b s
 
+-- while row g gives
 pub record Inner (b : Book) (s whole g r : ℕ) (t : Walked) : Type 0 where
-  pub row : r ≤ b .records
+  pub receiver : r ≤ b .records
   pub some : t .left ≤ whole
   pub ready : Ready b (walking (b .records) whole t)
+  pub apart : Apart (b .day) s (take (b .records) (t .positions))
+  pub full : Full (b .day) s (take (b .records) (t .positions)) r
   pub rest : inner-rest b s g r (walking (b .records) whole t) ≡ walked b s
 
 -- the rows of the tables are those of the walk
 pub row-here : {n : ℕ} (t : Walked) (g : ℕ) → g < n → row (take n (t .positions)) g ≡ row (t .positions) g
 row-here {n} t g h = getD-take n (t .positions) g noPosition h
-
-owes-here : (d s : ℕ) {n : ℕ} (t : Walked) (g : ℕ) → g < n → owes d s (row (take n (t .positions)) g) ≡ owes d s (row (t .positions) g)
-owes-here d s t g h = ap (owes d s) (row-here t g h)
 
 module _ (b : Book) (s : ℕ) (shape : Shaped b) (whole : ℕ) (asks : WalkAsks b s whole) where
   abbrev n : ℕ
@@ -171,45 +176,71 @@ module _ (b : Book) (s : ℕ) (shape : Shaped b) (whole : ℕ) (asks : WalkAsks 
 
   -- ── the loops ──
 
-  pub outer-start : (t : Walked) → t .positions ≡ b .positions → t .holdings ≡ b .holdings → t .charges ≡ b .charges → t .left ≡ whole → Outer b s whole 0 t
+  pub outer-start : (t : Walked) → t .positions ≡ b .positions → t .holdings ≡ b .holdings → t .charges ≡ b .charges → t .left ≡ whole → Outer b s whole 0 0 t
   unfolding openOf walked
   outer-start t ep eh ec el =
       let z : whole - t .left ≡ 0 = omega arith in
       let e : unwalked b ≡ walking n whole t = λ i. record { records = take n (sym ep i); holdings = sym eh i; charges = sym ec i; shares = sym z i } in
       record {
-        row = omega arith;
+        giver = omega arith;
+        receiver = omega arith;
         some = omega arith;
         ready = subst (Ready b) e ready-start;
+        apart = subst (λ (x : Walking). Apart d s (x .records)) e (apart-start d s (openOf b) (sound-runnable b (asks .ok) .signs));
+        full = λ j h. absurd (omega arith);
         rest = ap (outer-rest b s 0) (sym e) ∙ ap (λ (m : ℕ). search b s m 0 (unwalked b)) (omega arith);
       }
 
-  -- a record that owes nothing is skipped
-  pub outer-skip : (g : ℕ) (t : Walked) → g < n → owes d s (row (t .positions) g) ≡ 0 → Outer b s whole g t → Outer b s whole (g + 1) t
-  outer-skip g t h z c =
+  pub inner-start : (g r : ℕ) (t : Walked) → g < n → Outer b s whole g r t → Inner b s whole g r t
+  inner-start g r t h c =
       record {
-        row = omega arith;
+        receiver = c .receiver;
         some = c .some;
         ready = c .ready;
-        rest = sym (rest-skip b s hs g (walking n whole t) h (owes-here d s t g h ∙ z)) ∙ c .rest;
+        apart = c .apart;
+        full = c .full;
+        rest = sym (rest-enter b s hs g r (walking n whole t) h (c .receiver) (c .full)) ∙ c .rest;
       }
 
-  pub inner-start : (g : ℕ) (t : Walked) → g < n → (owes d s (row (t .positions) g) ≡ 0 → ⊥) → Outer b s whole g t → Inner b s whole g 0 t
-  inner-start g t h z c =
+  -- on to the next giver: this one has nothing left to give, or nobody wants any more
+  outer-after : (g r : ℕ) (t : Walked) → g < n → Inner b s whole g r t → inner-rest b s g r (walking n whole t) ≡ outer-rest b s (g + 1) (walking n whole t) → Outer b s whole (g + 1) r t
+  outer-after g r t h c e =
       record {
-        row = omega arith;
+        giver = omega arith;
+        receiver = c .receiver;
         some = c .some;
         ready = c .ready;
-        rest = sym (rest-enter b s hs g (walking n whole t) h (omega (arith, z, owes-here d s t g h))) ∙ c .rest;
+        apart = c .apart;
+        full = c .full;
+        rest = sym e ∙ c .rest;
       }
 
-  pub outer-next : (g r : ℕ) (t : Walked) → g < n → n ≤ r → Inner b s whole g r t → Outer b s whole (g + 1) t
-  outer-next g r t h l c =
-      record { row = omega arith; some = c .some; ready = c .ready; rest = sym (rest-leave b s hs g r (walking n whole t) l) ∙ c .rest }
+  pub outer-spent : (g r : ℕ) (t : Walked) → g < n → (at : ℕ) → at ≡ holdingAt (accountOf (row (t .positions) g)) s
+      → min (owes d s (row (t .positions) g)) (getD (t .holdings) at 0) ≡ 0 → Inner b s whole g r t → Outer b s whole (g + 1) r t
+  unfolding leftToGive
+  outer-spent g r t h at ea z c =
+      outer-after g r t h c (rest-spent b s hs g r (walking n whole t) (rw (row-here t g h, ← ea) z))
+
+  pub outer-next : (g r : ℕ) (t : Walked) → g < n → n ≤ r → Inner b s whole g r t → Outer b s whole (g + 1) r t
+  outer-next g r t h l c = outer-after g r t h c (rest-leave b s hs g r (walking n whole t) l)
+
+  -- on to the next receiver: this one wants nothing
+  pub inner-next : (g r : ℕ) (t : Walked) → r < n → wants d s (row (t .positions) r) ≡ 0 → Inner b s whole g r t → Inner b s whole g (r + 1) t
+  inner-next g r t h z c =
+      let w : wants d s (row (take n (t .positions)) r) ≡ 0 = ap (wants d s) (row-here t r h) ∙ z in
+      record {
+        receiver = omega arith;
+        some = c .some;
+        ready = c .ready;
+        apart = c .apart;
+        full = full-more d s (take n (t .positions)) r (c .full) w;
+        rest = sym (rest-full b s hs g r (walking n whole t) h w) ∙ c .rest;
+      }
 
   -- ── the ends ──
 
-  pub outer-end : (g : ℕ) (t : Walked) → n ≤ g → Outer b s whole g t → walking n whole t ≡ walked b s
-  outer-end g t h c = sym (rest-none b s hs g (walking n whole t) h) ∙ c .rest
+  pub outer-end : (g r : ℕ) (t : Walked) → n ≤ g → Outer b s whole g r t → walking n whole t ≡ walked b s
+  outer-end g r t h c = sym (rest-none b s hs g (walking n whole t) h) ∙ c .rest
 
   -- nothing is left to give
   pub left-by-label : (g r : ℕ) (t : Walked) → t .left ≡ 0 → Inner b s whole g r t → walking n whole t ≡ walked b s

@@ -1,6 +1,6 @@
 -- The walk step by step, as the code takes it: what is left to do from here gives what the whole walk gives. A walk moves no fewer shares as it
 -- goes on, and stays as it is while it moves none: so it may be left when all that can be given is given.
-use mathlib.Core.Path.{_≡_, refl, ap, _∙_}
+use mathlib.Core.Path.{_≡_, refl, sym, ap, _∙_}
 use mathlib.Core.Bool.{Bool, true, false, cond}
 use Prim.Native.Nat.{ℕ, zero, suc, _+_, _-_, _≤_, _<_}
 use native.Mathlib.Omega.{arith}
@@ -10,8 +10,9 @@ use lib.Dec.{ltb}
 use borrow.Author.Tests.{lt-ltb, le-ltb}
 use Rattle.rules.specs.declared.Book.{Book}
 use Rattle.laws.specs.Rows.{row}
-use Rattle.laws.specs.Walk.{Walking, owes, sizeOf, metAt, meet, serve, search}
+use Rattle.laws.specs.Walk.{Walking, owes, wants, leftToGive, sizeOf, metAt, meet, serve, search}
 use Rattle.laws.specs.Searching.{meet-none, meet-some}
+use Rattle.settling.specs.Passing.{Full, serve-none, serve-full, meet-full}
 
 -- what is left to do: row g has met the rows before r, or the rows before g have met all
 abbrev pub inner-rest : Book → ℕ → ℕ → ℕ → Walking → Walking
@@ -81,7 +82,7 @@ module _ (b : Book) (s : ℕ) (hs : s < 32) where
   search-grows zero g x = omega arith
   search-grows (suc f) g x = omega (arith, turned-grows g x, search-grows f (suc g) (turned g x))
 
-  search-same : (f g : ℕ) (x : Walking) → search b s f g x .shares ≤ x .shares → search b s f g x ≡ x
+  pub search-same : (f g : ℕ) (x : Walking) → search b s f g x .shares ≤ x .shares → search b s f g x ≡ x
   unfolding search
   search-same zero g x l = refl
   search-same (suc f) g x l =
@@ -96,21 +97,36 @@ module _ (b : Book) (s : ℕ) (hs : s < 32) where
       let e : n - g ≡ suc (n - (g + 1)) = omega arith in
       rw (e, add-one g)
 
-  -- a record that owes nothing is skipped
-  pub rest-skip : (g : ℕ) (x : Walking) → g < n → owes d s (row (x .records) g) ≡ 0 → outer-rest b s g x ≡ outer-rest b s (g + 1) x
-  rest-skip g x h z = outer-step g x h ∙ rw (le-ltb 0 (owes d s (row (x .records) g)) (omega arith))
+  none-owed : (g : ℕ) (x : Walking) → owes d s (row (x .records) g) ≡ 0 → leftToGive d s x g ≡ 0
+  unfolding leftToGive
+  none-owed g x z = omega arith
 
-  -- one that owes meets all
-  pub rest-enter : (g : ℕ) (x : Walking) → g < n → 0 < owes d s (row (x .records) g) → outer-rest b s g x ≡ inner-rest b s g 0 x
-  rest-enter g x h o =
-      outer-step g x h ∙ rw (lt-ltb 0 (owes d s (row (x .records) g)) o)
-      (ap (λ (m : ℕ). search b s (n - (g + 1)) (g + 1) (serve b s g m 0 x)) (omega arith))
+  -- row g meets the rows from r on, for those before want nothing; or it owes nothing
+  pub rest-enter : (g r : ℕ) (x : Walking) → g < n → r ≤ n → Full d s (x .records) r → outer-rest b s g x ≡ inner-rest b s g r x
+  rest-enter g r x h l f = outer-step g x h ∙ ap (search b s (n - (g + 1)) (g + 1)) (go (decLt 0 (owes d s (row (x .records) g))))
+    where
+      go : Dec (0 < owes d s (row (x .records) g)) → turned g x ≡ serve b s g (n - r) r x
+      go (yes o) = rw (lt-ltb 0 (owes d s (row (x .records) g)) o) (serve-full b s hs g r x l f)
+      go (no o) = rw (le-ltb 0 (owes d s (row (x .records) g)) (omega arith)) (sym (serve-none b s hs g (n - r) r x (none-owed g x (omega arith))))
 
   pub rest-meet : (g r : ℕ) (x : Walking) → r < n → inner-rest b s g r x ≡ inner-rest b s g (r + 1) (meet b s g r x)
   unfolding serve
   rest-meet g r x h =
       let e : n - r ≡ suc (n - (r + 1)) = omega arith in
       rw (e, add-one r)
+
+  -- who wants nothing is passed over
+  pub rest-full : (g r : ℕ) (x : Walking) → r < n → wants d s (row (x .records) r) ≡ 0 → inner-rest b s g r x ≡ inner-rest b s g (r + 1) x
+  rest-full g r x h z = rest-meet g r x h ∙ ap (inner-rest b s g (r + 1)) (meet-full b s hs g r x z)
+
+  -- who has nothing left to give is left
+  pub rest-spent : (g r : ℕ) (x : Walking) → leftToGive d s x g ≡ 0 → inner-rest b s g r x ≡ outer-rest b s (g + 1) x
+  rest-spent g r x z = ap (search b s (n - (g + 1)) (g + 1)) (serve-none b s hs g (n - r) r x z)
+
+  -- a meeting is done, and the two have no more to do with each other
+  pub rest-met : (g r : ℕ) (x y : Walking) → r < n → meet b s g r x ≡ y → sizeOf d s y g r ≡ 0 → inner-rest b s g r y ≡ inner-rest b s g r x
+  rest-met g r x y h e z =
+      rest-meet g r y h ∙ ap (inner-rest b s g (r + 1)) (meet-none b s hs g r y z ∙ sym e) ∙ sym (rest-meet g r x h)
 
   pub rest-leave : (g r : ℕ) (x : Walking) → n ≤ r → inner-rest b s g r x ≡ outer-rest b s (g + 1) x
   unfolding serve

@@ -1,28 +1,26 @@
-// The settlement run of one security (document 01, "Settlement run" and "Refusal numbers": 3, 13), on a sound book.
-use crate::counts::deliverable_of;
+// The settlement run of one security (document 01, "Settlement run" and "Refusal numbers": 13), on a sound book.
 use crate::counts::wanted_of;
 use crate::walk::walk;
 use parts::remaining;
 use rules::Book;
-use sound_tables::bad_security;
 use units::Shares;
 ghost use mathlib.Core.Path.{_≡_};
-ghost use mathlib.Core.Bool.{true};
+ghost use mathlib.Core.Bool.{true, false};
+ghost use Prim.Native.Nat.{_*_, _≤_};
 ghost use lib.IntN.{pos};
-ghost use Rattle.units.specs.Units.{sharesOf};
+ghost use Rattle.units.specs.Units.{sharesOf, mostShares};
+ghost use Rattle.rules.specs.Bounds.{mostRecords};
 ghost use Rattle.rules.specs.Sound.{sound};
+ghost use Rattle.rules.specs.Trades.{badSecurity};
+ghost use Rattle.rules.specs.Run.{deliverable};
 ghost use Rattle.rules.specs.Calls.{run, answerSound, after, figure};
 
-// 13 is looked at though it is never given on a sound book: there the receivers want what the givers owe.
-pub fn run_refusal(k: Book, security: u8) -> u8
-    requires { ⌜ sound k ≡ true ⌝ }
+// What a run of a listed security answers, of which `gives` shares can be given. 13 is looked at though it is never given
+// on a sound book: there the receivers want what the givers owe.
+pub fn run_refusal(k: Book, security: u8, gives: u64) -> u8
+    requires { ⌜ (sound k ≡ true) × (badSecurity k security ≡ false) × (gives ≡ deliverable k security) ⌝ }
     ensures { λ r. ⌜ r ≡ answerSound k (run security) ⌝ }
 {
-    let codes = k.currency;
-    if bad_security(codes, security) {
-        return 3;
-    }
-    let gives = deliverable_of(k, security);
     let wants = wanted_of(k, security);
     if gives > wants {
         return 13;
@@ -36,12 +34,11 @@ pub struct Settled {
     pub shares: Shares,
 }
 
-pub fn with_run(k: Book, security: u8) -> Settled
-    requires { ⌜ (sound k ≡ true) × (answerSound k (run security) ≡ 0) ⌝ }
+pub fn with_run(k: Book, security: u8, gives: u64) -> Settled
+    requires { ⌜ (sound k ≡ true) × (answerSound k (run security) ≡ 0) × (gives ≡ deliverable k security) × (gives ≤ mostRecords * mostShares) ⌝ }
     ensures { λ r. ⌜ (r .book ≡ after k (run security)) × (sharesOf (r .shares) ≡ pos (figure k (run security))) ⌝ }
 {
-    let all = deliverable_of(k, security);
-    let end = walk(k, security, all);
+    let end = walk(k, security, gives);
     let rows = end.positions;
     let left = remaining(rows, k.records, k.day);
     let positions = left.positions;
@@ -52,7 +49,7 @@ pub fn with_run(k: Book, security: u8) -> Settled
     next.positions = positions;
     next.holdings = holdings;
     next.charges = charges;
-    let moved = all - end.left;
+    let moved = gives - end.left;
     Settled {
         book: next,
         shares: Shares::of(false, moved),

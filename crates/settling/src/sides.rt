@@ -66,15 +66,10 @@ pub fn smaller(a: u64, b: u64) -> u64
     b
 }
 
-// The shares of a meeting: the smaller of what the giver, whose account holds `held`, has left to give, and what the
-// receiver still wants. Most records want nothing, so that is looked at first.
-pub fn size_of(day: u16, security: u8, held: u64, giver: Position, receiver: Position) -> u64
-    ensures { λ r. ⌜ r ≡ min (min (owes day security giver) held) (wants day security receiver) ⌝ }
+// What a giver, whose account holds `held`, has left to give.
+pub fn gives_of(day: u16, security: u8, held: u64, giver: Position) -> u64
+    ensures { λ r. ⌜ r ≡ min (owes day security giver) held ⌝ }
 {
-    let wanted = wants_of(day, security, receiver);
-    if wanted == 0 {
-        return 0;
-    }
     let owed = owes_of(day, security, giver);
-    smaller(smaller(owed, held), wanted)
+    smaller(owed, held)
 }

@@ -1,10 +1,12 @@
 // The search through givers and receivers (document 01, "Settlement run"): it stops at once when nothing is left to give.
-use crate::moving::charge_both;
 use crate::moving::move_shares;
+use crate::sides::gives_of;
 use crate::sides::holding_place;
-use crate::sides::owes_of;
-use crate::sides::size_of;
+use crate::sides::smaller;
+use crate::sides::wants_of;
+use parts::place_of;
 use parts::rest_of;
+use parts::with_part;
 use rules::Book;
 use rules::Position;
 use units::Mils;
@@ -37,7 +39,8 @@ fn unwalked(k: Book, all: u64) -> Walked
     }
 }
 
-// Givers by ascending number, each through the receivers by ascending number, while some of `all` is left to give.
+// Givers by ascending number meet receivers by ascending number, while some of `all` is left to give. Who has given all
+// that it can, and who wants nothing more, is not met again: the rows before g and before r are done with.
 pub fn walk(k: Book, security: u8, all: u64) -> Walked
     requires { ⌜ WalkAsks k security all ⌝ }
     ensures { λ r. ⌜ (walking (k .records) all r ≡ walked k security) × (r .left ≤ all) ⌝ }
@@ -46,32 +49,35 @@ pub fn walk(k: Book, security: u8, all: u64) -> Walked
     let codes = k.currency;
     let mut t = unwalked(k, all);
     let mut g: usize = 0;
+    let mut r: usize = 0;
     'givers: while g < n {
-        if owes_of(k.day, security, t.positions[g]) == 0 {
-            g += 1;
-            continue 'givers;
-        }
-        let mut r: usize = 0;
         'receivers: while r < n {
+            let giver = t.positions[g];
+            let from = holding_place(giver, security);
+            let has = gives_of(k.day, security, t.holdings[from], giver);
+            if has == 0 {
+                break 'receivers;
+            }
+            let receiver = t.positions[r];
+            let wanted = wants_of(k.day, security, receiver);
+            if wanted == 0 {
+                r += 1;
+                continue 'receivers;
+            }
+            let size = smaller(has, wanted);
+            let part = Shares::of(false, size);
+            let to = holding_place(receiver, security);
+            t.positions[g] = rest_of(giver, part);
+            t.positions[r] = rest_of(receiver, part);
+            move_shares(&mut t.holdings, from, to, size);
+            let giver_charge = place_of(codes, giver);
+            t.charges[giver_charge] = with_part(t.charges[giver_charge], giver, part);
+            let receiver_charge = place_of(codes, receiver);
+            t.charges[receiver_charge] = with_part(t.charges[receiver_charge], receiver, part);
+            t.left -= size;
             if t.left == 0 {
                 break 'givers;
             }
-            let giver = t.positions[g];
-            let receiver = t.positions[r];
-            let from = holding_place(giver, security);
-            let size = size_of(k.day, security, t.holdings[from], giver, receiver);
-            if size > 0 {
-                let part = Shares::of(false, size);
-                let to = holding_place(receiver, security);
-                t.positions[g] = rest_of(giver, part);
-                t.positions[r] = rest_of(receiver, part);
-                move_shares(&mut t.holdings, from, to, size);
-                let charges = t.charges;
-                let charged = charge_both(charges, codes, giver, receiver, part);
-                t.charges = charged;
-                t.left -= size;
-            }
-            r += 1;
         }
         g += 1;
     }

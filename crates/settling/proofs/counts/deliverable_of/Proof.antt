@@ -2,12 +2,10 @@
 -- that are left, make the whole. Assumes nothing.
 use borrow.Author.Needs.{needs}
 use native.Mathlib.Omega.{arith}
-use mathlib.Core.Path.{_≡_, ap, _∙_}
-use Prim.Native.Nat.{ℕ, _-_, min, _≤_}
-use lib.ListN.{length, getD}
+use mathlib.Core.Path.{_≡_}
+use Prim.Native.Nat.{_-_, _≤_}
+use lib.ListN.{length}
 use Rattle.fields.specs.Lengths.{unmapped}
-use Rattle.rules.specs.Book.{noPosition}
-use Rattle.laws.specs.Walk.{owes}
 use Rattle.laws.specs.SoundRun.{sound-runnable}
 use Rattle.settling.specs.Counting.{Giving, giving-start, giving-more, giving-fits, giving-end}
 use Rattle.settling.proofs.counts.deliverable_of.Statement.{statement}
@@ -46,45 +44,38 @@ mul-old c = omega (arith, c .holding-place .ensures .1)
 array-read-old : tie.Need-array-read-old Inv-loop μ-loop
 array-read-old c = c .holding-place .ensures .1
 
-owes-of-requires : tie.Need-owes-of-requires Inv-loop μ-loop
-owes-of-requires c κs = search needs
-
-smaller-requires : tie.Need-smaller-requires Inv-loop μ-loop
-smaller-requires c κs = search needs
-
--- what the record gives
-gives-is : (c : tie.After-smaller Inv-loop μ-loop) → c .smaller .result ≡ min (owes (c .before .before .before .before .before .before .before .args .t1 .day) (c .before .before .before .before .before .before .before .args .security) (getD (c .before .before .before .before .before .before .before .args .t1 .positions) (c .before .before .before .before .before .loop .i) noPosition)) (getD (c .before .before .before .before .before .loop .held) (c .before .before .holding-place .result) 0)
-gives-is c = c .smaller .ensures ∙ ap (λ (m : ℕ). min m (getD (c .before .before .before .before .before .loop .held) (c .before .before .holding-place .result) 0)) (c .before .owes-of .ensures)
+gives-of-requires : tie.Need-gives-of-requires Inv-loop μ-loop
+gives-of-requires c κs = search needs
 
 sub-held : tie.Need-sub-held Inv-loop μ-loop
-sub-held c = omega (arith, gives-is c)
+sub-held c = omega (arith, c .gives-of .ensures)
 
 mul-held : tie.Need-mul-held Inv-loop μ-loop
-mul-held c = omega (arith, c .before .before .holding-place .ensures .1)
+mul-held c = omega (arith, c .before .holding-place .ensures .1)
 
 array-write-held : tie.Need-array-write-held Inv-loop μ-loop
-array-write-held c = c .before .before .holding-place .ensures .1
+array-write-held c = c .before .holding-place .ensures .1
 
 add-sum : tie.Need-add-sum Inv-loop μ-loop
 add-sum c =
-    let s = c .before .before .before .before .before .before .before in
-    let l = c .before .before .before .before .before .loop in
+    let s = c .before .before .before .before .before .before in
+    let l = c .before .before .before .before .loop in
     omega (
       arith,
-      giving-fits (s .args .t1) (s .args .security) (s .pre .0) (long s) (l .held) (l .sum) (l .i) (c .before .before .holding-place .result) (c .smaller .result) (c .before .before .before .before .loop-test .taken) (l .inv) (c .before .before .holding-place .ensures .0) (gives-is c),
+      giving-fits (s .args .t1) (s .args .security) (s .pre .0) (long s) (l .held) (l .sum) (l .i) (c .before .holding-place .result) (c .gives-of .result) (c .before .before .before .loop-test .taken) (l .inv) (c .before .holding-place .ensures .0) (c .gives-of .ensures),
     )
 
 add-i : tie.Need-add-i Inv-loop μ-loop
-add-i c = omega (arith, few (c .before .before .before .before .before .before .before))
+add-i c = omega (arith, few (c .before .before .before .before .before .before))
 
 loop-less : tie.Need-loop-less Inv-loop μ-loop
 loop-less c = omega arith
 
 loop-again : tie.Need-loop-again Inv-loop μ-loop
 loop-again c =
-    let s = c .before .before .before .before .before .before .before in
-    let l = c .before .before .before .before .before .loop in
-    giving-more (s .args .t1) (s .args .security) (s .pre .0) (long s) (l .held) (l .sum) (l .i) (c .before .before .holding-place .result) (c .smaller .result) (c .before .before .before .before .loop-test .taken) (l .inv) (c .before .before .holding-place .ensures .0) (gives-is c)
+    let s = c .before .before .before .before .before .before in
+    let l = c .before .before .before .before .loop in
+    giving-more (s .args .t1) (s .args .security) (s .pre .0) (long s) (l .held) (l .sum) (l .i) (c .before .holding-place .result) (c .gives-of .result) (c .before .before .before .loop-test .taken) (l .inv) (c .before .holding-place .ensures .0) (c .gives-of .ensures)
 
 returns : tie.Need-returns Inv-loop μ-loop
 returns c =
@@ -105,8 +96,7 @@ deliverable-of-spec =
     holding-place-requires
     mul-old
     array-read-old
-    owes-of-requires
-    smaller-requires
+    gives-of-requires
     sub-held
     mul-held
     array-write-held

@@ -31,31 +31,27 @@ shape c =
 listed : (c : tie.Start) → (c .args .security < 32) × (unlisted (c .args .k) (c .args .security) ≡ false)
 listed c = may-run (c .args .k) (c .args .security) (c .pre .1)
 
-deliverable-of-requires : tie.Need-deliverable-of-requires
-deliverable-of-requires c κs = (c .pre .0, listed c .0)
-
 walk-requires : tie.Need-walk-requires
-walk-requires c κs =
-    let s = c .before in record { ok = s .pre .0; security = listed s .0; listed = listed s .1; gives = c .deliverable-of .ensures .0 }
+walk-requires c κs = record { ok = c .pre .0; security = listed c .0; listed = listed c .1; gives = c .pre .2 }
 
 remaining-requires : tie.Need-remaining-requires
-remaining-requires c κs = let s = c .before .before .before in sound-runnable (s .args .k) (s .pre .0) .few
+remaining-requires c κs = let s = c .before .before in sound-runnable (s .args .k) (s .pre .0) .few
 
 sub-moved : tie.Need-sub-moved
 sub-moved c = c .before .before .before .before .before .before .walk .ensures .1
 
 of-requires : tie.Need-of-requires
-of-requires c κs = omega (arith, c .before .before .before .before .before .before .before .deliverable-of .ensures .1)
+of-requires c κs = omega (arith, c .before .before .before .before .before .before .before .pre .3)
 
 returns : tie.Need-returns
 unfolding after figure
 returns c =
-    let s = c .before .before .before .before .before .before .before .before .before in
+    let s = c .before .before .before .before .before .before .before .before in
     let k = s .args .k in
     let is = s .args .security in
     let w = c .before .before .before .before .before .before .before .walk in
     let v = c .before .before .before .before .before .remaining in (
-      closed-is k (c .before .before .before .before .before .before .before .before .deliverable-of .result) (w .result) (v .result) (v .ensures)
+      closed-is k (s .args .gives) (w .result) (v .result) (v .ensures)
           ∙ ap (closed k) (w .ensures .0)
           ∙ sym (settled-is k is (listed s .0) (s .pre .0) (shape s)),
       c .of .ensures .0
@@ -65,4 +61,4 @@ returns c =
 pub with-run-spec : {M : Type 1} → statement M
 with-run-spec =
     tie.close
-    (tie.spec deliverable-of-requires walk-requires remaining-requires sub-moved of-requires returns)
+    (tie.spec walk-requires remaining-requires sub-moved of-requires returns)
