@@ -10,6 +10,7 @@ mod trades;
 mod word;
 
 pub use charges::charge_at;
+pub use charges::clear_charges;
 pub use codes::code_at;
 pub use codes::codes_of;
 use fields::get;
@@ -27,9 +28,10 @@ pub use trades::trade_at;
 pub use trades::trades_of;
 ghost use mathlib.Core.Path.{_≡_};
 ghost use lib.ListN.{length};
+ghost use Rattle.rules.specs.Book.{withDay};
 ghost use Rattle.rules.specs.Layout.{bookOf, bytesOf, bookLength};
 
-// The day, and the two counts, where they stand.
+// The day where it stands.
 pub fn day_at(b: &[u8]) -> u16
     requires { ⌜ length (now b) ≡ bookLength ⌝ }
     ensures { λ r. ⌜ r ≡ bookOf (now (b .entry)) .day ⌝ }
@@ -37,6 +39,15 @@ pub fn day_at(b: &[u8]) -> u16
     get(b, DAY, 2) as u16
 }
 
+// The day is changed where it stands: every other byte is left as it was.
+pub fn put_day(b: &mut [u8], day: u16)
+    requires { ⌜ length (now b) ≡ bookLength ⌝ }
+    ensures { λ _. ⌜ now (b .exit) ≡ bytesOf (withDay (bookOf (now (b .entry))) day) ⌝ }
+{
+    put(b, DAY, 2, day as u64);
+}
+
+// The two counts where they stand.
 pub fn records_at(b: &[u8]) -> u16
     requires { ⌜ length (now b) ≡ bookLength ⌝ }
     ensures { λ r. ⌜ r ≡ bookOf (now (b .entry)) .records ⌝ }

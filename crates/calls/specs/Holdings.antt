@@ -4,7 +4,7 @@ use mathlib.Core.Bool.{Bool, true, false, cond, _||_}
 use mathlib.Core.List.{List, [], _∷_}
 use Prim.Native.Nat.{ℕ, _+_, _*_, _-_, _<_, _≤_}
 use native.Mathlib.Omega.{arith}
-use borrow.Author.Tests.{ltb-false, lt-ltb, le-ltb, leb-true, eq-eqb, ne-eqb}
+use borrow.Author.Tests.{ltb-false, lt-ltb, le-ltb, leb-true, leb-false, eq-eqb, ne-eqb}
 use lib.Dec.{eqb, leb, ltb}
 use lib.ListN.{length, getD, set}
 use Rattle.rules.specs.Words.{all, Test, first, above}
@@ -18,7 +18,6 @@ use Rattle.laws.specs.Cases.{both-hold, neither, cond-yes, cond-no}
 use Rattle.laws.specs.Walks.{all-at}
 use Rattle.laws.specs.Accepted.{passed, MayHold}
 use Rattle.laws.specs.SoundParts.{sound-parts}
-use Rattle.laws.specs.KeptHoldings.{total-fits}
 
 -- the first of the shared tests that holds
 unfoldable pub commonRefusal : Book → ℕ → ℕ → ℕ → ℕ
@@ -34,16 +33,11 @@ three false true b₄ rest n e = rw e
 three false false true rest n e = rw e
 three false false false rest n e = rw e
 
--- ── holdings of a sound book: each within 10^12, and so the total of a security ──
+-- ── holdings of a sound book: each within 10^12 ──
 
 pub entries-small : (k : Book) → sound k ≡ true → all (λ h. leb h mostHeld) (k .holdings) ≡ true
 unfolding holdingsFit
 entries-small k e = both-hold (all (λ h. leb h mostHeld) (k .holdings)) (all (λ t. leb t mostHeld) (totalsHeld (k .holdings))) (sound-parts k e .holdings) .0
-
-pub total-small : (k : Book) (s : ℕ) (ts : List ℕ) → sound k ≡ true → s < securities → ts ≡ totalsHeld (k .holdings) → length (k .holdings) ≡ accounts * securities
-    → getD ts s 0 ≤ mostHeld
-unfolding totalHeld
-total-small k s ts e h t long = rw t (total-fits k s (sound-parts k e .holdings) long h)
 
 module _ (k : Book) (a s q : ℕ) where
   common-then : (rest : List Test) (n : ℕ) → n ≡ commonRefusal k a s q → first (holdingTests k a s q rest) ≡ cond (eqb n 0) (first rest) n
@@ -76,13 +70,16 @@ module _ (k : Book) (a s q : ℕ) where
   unfolding answerSound tests
   deposit-goes n e z = common-then _ n e ∙ cond-yes _ n (eq-eqb n 0 z)
 
-  pub deposit-over : (n : ℕ) (ts : List ℕ) → n ≡ commonRefusal k a s q → n ≡ 0 → ts ≡ totalsHeld (k .holdings) → mostHeld < getD ts s 0 + q → 12 ≡ answerSound k (deposit a s q)
-  unfolding totalHeld first
-  deposit-over n ts e z t h = sym (deposit-goes n e z ∙ rw (sym t, lt-ltb mostHeld (getD ts s 0 + q) h))
+  -- the total against the most that it may be, m
+  pub deposit-over : (n m : ℕ) → n ≡ commonRefusal k a s q → n ≡ 0 → m + q ≡ mostHeld → leb (totalHeld (k .holdings) s) m ≡ false → 12 ≡ answerSound k (deposit a s q)
+  unfolding first
+  deposit-over n m e z w h =
+      sym (deposit-goes n e z ∙ rw (lt-ltb mostHeld (totalHeld (k .holdings) s + q) (omega (arith, leb-false (totalHeld (k .holdings) s) m h))))
 
-  pub deposit-fine : (n : ℕ) (ts : List ℕ) → n ≡ commonRefusal k a s q → n ≡ 0 → ts ≡ totalsHeld (k .holdings) → getD ts s 0 + q ≤ mostHeld → 0 ≡ answerSound k (deposit a s q)
-  unfolding totalHeld first
-  deposit-fine n ts e z t h = sym (deposit-goes n e z ∙ rw (sym t, le-ltb mostHeld (getD ts s 0 + q) h))
+  pub deposit-fine : (n m : ℕ) → n ≡ commonRefusal k a s q → n ≡ 0 → m + q ≡ mostHeld → leb (totalHeld (k .holdings) s) m ≡ true → 0 ≡ answerSound k (deposit a s q)
+  unfolding first
+  deposit-fine n m e z w h =
+      sym (deposit-goes n e z ∙ rw (le-ltb mostHeld (totalHeld (k .holdings) s + q) (omega (arith, leb-true (totalHeld (k .holdings) s) m h))))
 
   -- ── withdrawal ──
 

@@ -3,4 +3,5 @@ pub mod Lent
 pub mod Holdings
 pub mod Entries
 pub mod Rolls
+pub mod Quiet
 pub mod Runs

@@ -4,7 +4,7 @@ use book::codes_of;
 use book::holding_at;
 use book::put_holding;
 use sound_tables::bad_security;
-use sound_tables::totals_at;
+use sound_tables::total_fits;
 ghost use mathlib.Core.Path.{_≡_};
 ghost use mathlib.Core.Bool.{true, false};
 ghost use lib.ListN.{length};
@@ -38,7 +38,7 @@ fn common_refusal(b: &[u8], account: u8, security: u8, quantity: u64) -> u8
     0
 }
 
-// 12: the security's total would pass 10^12. A sound book has none above it, so that the sum stays in 64 bits.
+// 12: the security's total would pass 10^12, that is, it is above what the deposit leaves of it.
 fn deposit_refusal(b: &[u8], account: u8, security: u8, quantity: u64) -> u8
     requires { ⌜ (length (now b) ≡ bookLength) × (sound (bookOf (now b)) ≡ true) ⌝ }
     ensures { λ r. ⌜ r ≡ answerSound (bookOf (now (b .entry))) (deposit account security quantity) ⌝ }
@@ -47,9 +47,9 @@ fn deposit_refusal(b: &[u8], account: u8, security: u8, quantity: u64) -> u8
     if common != 0 {
         return common;
     }
-    let totals = totals_at(b);
     let s = security as usize;
-    if totals[s] + quantity > 1_000_000_000_000 {
+    let most = 1_000_000_000_000 - quantity;
+    if !total_fits(b, s, most) {
         return 12;
     }
     0

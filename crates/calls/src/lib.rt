@@ -3,6 +3,7 @@
 // sound book and every call leaves one.
 mod entries;
 mod holdings;
+mod quiet;
 mod rolls;
 mod runs;
 

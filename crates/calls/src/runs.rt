@@ -1,9 +1,15 @@
-// The settlement run (document 01, "Settlement run"; refusals 3 and 13). The answer is the shares moved, 0 included.
+// The settlement run (document 01, "Settlement run"; refusals 3 and 13). The answer is the shares moved, 0 included: where
+// nothing can be given the book is neither loaded nor stored.
+use book::codes_of;
 use book::load;
 use book::store;
 use rules::RunAnswer;
+use settling::can_give;
+use settling::deliverable_of;
 use settling::run_refusal;
 use settling::with_run;
+use sound_tables::bad_security;
+use units::Shares;
 ghost use mathlib.Core.Path.{_≡_};
 ghost use mathlib.Core.Bool.{false};
 ghost use Rattle.rules.specs.Sound.{notSound};
@@ -13,12 +19,20 @@ pub fn run(book: &mut [u8], security: u8) -> RunAnswer
     requires { ⌜ notSound (now book) ≡ false ⌝ }
     ensures { λ r. ⌜ (r ≡ runAnswer (now (book .entry)) security) × (now (book .exit) ≡ afterBytes (now (book .entry)) (run security)) ⌝ }
 {
+    let codes = codes_of(book);
+    if bad_security(codes, security) {
+        return RunAnswer::RunRefused(3);
+    }
+    if !can_give(book, security) {
+        return RunAnswer::Moved(Shares::of(false, 0));
+    }
     let k = load(book);
-    let refusal = run_refusal(k, security);
+    let gives = deliverable_of(k, security);
+    let refusal = run_refusal(k, security, gives);
     if refusal != 0 {
         return RunAnswer::RunRefused(refusal);
     }
-    let settled = with_run(k, security);
+    let settled = with_run(k, security, gives);
     let next = settled.book;
     let moved = settled.shares;
     store(next, book);

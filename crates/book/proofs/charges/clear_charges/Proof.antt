@@ -1,0 +1,25 @@
+-- `book::charges::clear_charges` meets its contract. Assumes nothing.
+use borrow.Author.Needs.{needs}
+use mathlib.Core.Path.{_∙_}
+use native.Mathlib.Omega.{arith}
+use Rattle.fields.specs.Field.{Bytes}
+use Rattle.book.specs.Changing.{charges-cleared}
+use Rattle.book.proofs.charges.clear_charges.Statement.{statement}
+use Rattle.book.proofs.charges.clear_charges.Tie as tie
+
+bytes : (c : tie.After-slice-known) → Bytes (c .before .args .b .now)
+bytes c = record { byte = λ i. omega (arith, c .slice-known .given i) }
+
+put-zeros-requires : tie.Need-put-zeros-requires
+put-zeros-requires c κs = search needs
+
+same-length : tie.Need-same-length
+same-length c = search needs
+
+returns : tie.Need-returns
+returns c =
+    let s = c .before .before .before .before in
+    c .before .before .put-zeros .ensures ∙ charges-cleared (s .before .args .b .now) (bytes s) (s .before .pre)
+
+pub clear-charges-spec : {M : Type 1} → statement M
+clear-charges-spec = tie.close (tie.spec put-zeros-requires same-length returns)
