@@ -1,11 +1,9 @@
 // Marks of an account (document 01, "Marks"; refusals 1, 2, 18, 5, 15, 17, 16). The book is only read.
-use book::load;
 use marking::marks_of;
 use rules::MarksAnswer;
 use soundness::not_sound;
 ghost use mathlib.Core.Path.{_≡_};
-ghost use Rattle.rules.specs.Marks.{marks};
-ghost use Rattle.marking.specs.SoundMarks.{terms};
+ghost use Rattle.rules.specs.Marks.{terms, marks};
 
 pub fn marks(
     book: &[u8],
@@ -20,6 +18,5 @@ pub fn marks(
     if not_sound(book) {
         return MarksAnswer::MarksRefused(1);
     }
-    let k = load(book);
-    marks_of(k, account, intraday, closing, rates, haircuts)
+    marks_of(book, account, intraday, closing, rates, haircuts)
 }

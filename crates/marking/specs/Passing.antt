@@ -12,12 +12,12 @@ use Rattle.rules.specs.Words.{any, above, outside, Test, first}
 use Rattle.rules.specs.Bounds.{lastAccount}
 use Rattle.rules.specs.Trades.{noAccount}
 use Rattle.rules.specs.Prices.{wrongTable, entryAbove}
-use Rattle.rules.specs.Marks.{Terms, rateOf, haircutOf, wrongTerms, badRates}
+use Rattle.rules.specs.Marks.{Terms, terms, rateOf, haircutOf, wrongTerms, badRates}
 use Rattle.laws.specs.Cases.{neither}
 use Rattle.laws.specs.Accepted.{passed}
 use Rattle.marking.specs.Looking.{fails-at}
 use Rattle.marking.specs.Pricing.{Tables, tables-right, Fair}
-use Rattle.marking.specs.SoundMarks.{terms, termsTests}
+use Rattle.marking.specs.SoundMarks.{termsTests}
 use Rattle.marking.specs.Converting.{Rates}
 
 -- the test of rates and haircuts looks at no price

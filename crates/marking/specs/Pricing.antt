@@ -10,8 +10,8 @@ use Rattle.units.specs.Units.{topPrice}
 use Rattle.rules.specs.Words.{above}
 use Rattle.rules.specs.Bounds.{lastSecurity, everySecurity}
 use Rattle.rules.specs.Trades.{noSecurity}
-use Rattle.rules.specs.Prices.{entryOf, wrongTable, entryAbove, fromClosing, tableUsed, priceOf, priceTests, priceAnswer, pricePart, Spot, priceSpot}
-use Rattle.laws.specs.Cases.{by-test, neither}
+use Rattle.rules.specs.Prices.{entryOf, wrongTable, entryAbove, fromClosing, tableUsed, priceOf, priceTests, priceAnswer, pricePart, Spot, entrySpot, priceSpot}
+use Rattle.laws.specs.Cases.{by-test, neither, cond-no}
 use Rattle.laws.specs.Accepted.{passed}
 use Rattle.sound_positions.specs.Balance.{securities-length, security-at}
 use Rattle.marking.specs.Looking.{fails-at}
@@ -83,14 +83,18 @@ module _ (a b : List ℕ) (s : ℕ) where
   pub part-closing : priceAnswer a b s ≡ 0 → entryOf a s ≡ 0 → take (s * 4 + 4 - s * 4) (drop (s * 4) b) ≡ pricePart a b s
   part-closing z e = part-of b z (from-closing e)
 
-module _ (a : List ℕ) (s : ℕ) (p q : Spot) where
-  pub spot-intraday : (entryOf a s ≡ 0 → ⊥) → (p .0, s * 4 + p .1) ≡ priceSpot a s p q
-  unfolding priceSpot fromClosing
-  spot-intraday h = rw (ne-eqb (entryOf a s) 0 h)
+module _ (a b : List ℕ) (s : ℕ) (p q : Spot) where
+  pub spot-none : (priceAnswer a b s ≡ 0 → ⊥) → (p .0, 0 + p .1) ≡ priceSpot a b s p q
+  unfolding priceSpot
+  spot-none h = ap (λ (x : ℕ). (p .0, x)) (omega arith) ∙ sym (cond-no (entrySpot a s p q) p (ne-eqb (priceAnswer a b s) 0 h))
 
-  pub spot-closing : entryOf a s ≡ 0 → (q .0, s * 4 + q .1) ≡ priceSpot a s p q
-  unfolding priceSpot fromClosing
-  spot-closing e = rw (eq-eqb (entryOf a s) 0 e)
+  pub spot-intraday : priceAnswer a b s ≡ 0 → (entryOf a s ≡ 0 → ⊥) → (p .0, s * 4 + p .1) ≡ priceSpot a b s p q
+  unfolding priceSpot entrySpot fromClosing
+  spot-intraday z h = rw (eq-eqb (priceAnswer a b s) 0 z, ne-eqb (entryOf a s) 0 h)
+
+  pub spot-closing : priceAnswer a b s ≡ 0 → entryOf a s ≡ 0 → (q .0, s * 4 + q .1) ≡ priceSpot a b s p q
+  unfolding priceSpot entrySpot fromClosing
+  spot-closing z e = rw (eq-eqb (priceAnswer a b s) 0 z, eq-eqb (entryOf a s) 0 e)
 
 -- ── two tables with no entry too high ──
 

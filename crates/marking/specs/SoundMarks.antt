@@ -17,10 +17,6 @@ use Rattle.rules.specs.declared.Book.{Book}
 use Rattle.rules.specs.declared.MarksAnswer.{MarksAnswer}
 use Rattle.rules.specs.declared.MarksAnswer.the-variants.{MarksRefused}
 
--- what marks are asked with, as it is lent
-abbrev pub terms : List ℕ → List ℕ → List ℕ → List ℕ → Terms
-terms intraday closing rates haircuts = record { intraday = intraday; closing = closing; rates = rates; haircuts = haircuts }
-
 -- 2, 18, 5, 15, which look at no book, and the tests behind them
 unfoldable pub termsTests : ℕ → Terms → List Test → List Test
 termsTests a t rest =

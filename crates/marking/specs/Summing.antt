@@ -19,7 +19,7 @@ use Rattle.rules.specs.Bounds.{mostRecords, currencies}
 use Rattle.rules.specs.Book.{quantityOf, moneyOf, accountOf, securityOf, openOf, currencyOf, charged, noPosition}
 use Rattle.rules.specs.Sound.{sizesFit, isPosition, recordsOf, sound}
 use Rattle.rules.specs.Prices.{priceOf}
-use Rattle.rules.specs.Marks.{Terms, markOf, markAt, lacksPrice, sumOf}
+use Rattle.rules.specs.Marks.{Terms, terms, markOf, markAt, lacksPrice, sumOf}
 use Rattle.rules.specs.declared.Position.{Position}
 use Rattle.rules.specs.declared.Book.{Book}
 use Rattle.laws.specs.Cases.{by-test, both-hold, cond-yes, cond-no}
@@ -33,7 +33,6 @@ use Rattle.sound_positions.specs.Table.{records-within}
 use Rattle.sound_tables.specs.Stakes.{MoneyAsks, currency-below}
 use Rattle.marking.specs.declared.marks.PerCurrency.{PerCurrency}
 use Rattle.marking.specs.Pricing.{Fair, price-within}
-use Rattle.marking.specs.SoundMarks.{terms}
 
 -- marks look at the price tables alone
 abbrev pub priced : List ℕ → List ℕ → Terms

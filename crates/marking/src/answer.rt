@@ -7,15 +7,17 @@ use crate::marks::sums_of;
 use crate::terms::terms_refusal;
 use crate::unpriced::has_unpriced;
 use exact::Rounded;
-use rules::Book;
 use rules::MarksAnswer;
 use units::Mils;
 ghost use mathlib.Core.Path.{_≡_};
 ghost use mathlib.Core.Bool.{true, _||_};
 ghost use Prim.Native.Nat.{_-_, _≤_};
+ghost use lib.ListN.{length};
 ghost use Rattle.exact.specs.MulDiv.{limit};
+ghost use Rattle.rules.specs.Layout.{bookLength, bookOf};
 ghost use Rattle.rules.specs.Sound.{sound};
-ghost use Rattle.marking.specs.SoundMarks.{terms, marksSound};
+ghost use Rattle.rules.specs.Marks.{terms};
+ghost use Rattle.marking.specs.SoundMarks.{marksSound};
 ghost use Rattle.marking.specs.Converting.{Rates};
 ghost use Rattle.marking.specs.Answering.{isPast, numberIn, dueWith, answerOf};
 
@@ -78,26 +80,26 @@ fn answer_of(t: PerCurrency, rates: &[u32], haircuts: &[u32]) -> MarksAnswer
     due_of(t, number_in(up), number_in(down))
 }
 
-// The answer of marks for a sound book. The book is only read.
+// The answer of marks for bytes that are a sound book. The book is only read, and never copied.
 pub fn marks_of(
-    k: Book,
+    book: &[u8],
     account: u8,
     intraday: &[u8],
     closing: &[u8],
     rates: &[u32],
     haircuts: &[u32],
 ) -> MarksAnswer
-    requires { ⌜ sound k ≡ true ⌝ }
-    ensures { λ r. ⌜ r ≡ marksSound k account (terms (now (intraday .entry)) (now (closing .entry)) (now (rates .entry)) (now (haircuts .entry))) ⌝ }
+    requires { ⌜ (length (now book) ≡ bookLength) × (sound (bookOf (now book)) ≡ true) ⌝ }
+    ensures { λ r. ⌜ r ≡ marksSound (bookOf (now (book .entry))) account (terms (now (intraday .entry)) (now (closing .entry)) (now (rates .entry)) (now (haircuts .entry))) ⌝ }
 {
     let fault = terms_refusal(account, intraday, closing, rates, haircuts);
     if fault != 0 {
         return MarksAnswer::MarksRefused(fault);
     }
     let own = account as usize;
-    if has_unpriced(k, own, intraday, closing) {
+    if has_unpriced(book, own, intraday, closing) {
         return MarksAnswer::MarksRefused(17);
     }
-    let t = sums_of(k, own, intraday, closing);
+    let t = sums_of(book, own, intraday, closing);
     answer_of(t, rates, haircuts)
 }

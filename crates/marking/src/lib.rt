@@ -8,4 +8,3 @@ mod unpriced;
 
 pub use answer::marks_of;
 pub use prices::price;
-pub use prices::price_refusal;

@@ -1,7 +1,9 @@
 // "A record's mark is quantity * price less its money: above zero favourable, below unfavourable. Marks are summed per
 // currency." Only the account's own records count.
 use crate::prices::price_of;
-use rules::Book;
+use book::codes_of;
+use book::position_at;
+use book::records_at;
 use rules::Position;
 use sound_positions::account_of;
 use sound_positions::security_of;
@@ -12,11 +14,12 @@ ghost use mathlib.Core.Path.{_≡_};
 ghost use mathlib.Core.Bool.{true, cond};
 ghost use Prim.Native.Nat.{ℕ, _<_, _≤_};
 ghost use lib.Dec.{eqb};
-ghost use lib.ListN.{getD};
+ghost use lib.ListN.{length, getD};
 ghost use lib.IntN.{natAbs};
 ghost use Rattle.units.specs.Units.{milsOf};
 ghost use Rattle.rules.specs.Bounds.{currencies};
 ghost use Rattle.rules.specs.Book.{accountOf, securityOf};
+ghost use Rattle.rules.specs.Layout.{bookLength, bookOf};
 ghost use Rattle.rules.specs.Sound.{sizesFit, sound};
 ghost use Rattle.rules.specs.Marks.{markAt, markedOf, sumOf};
 ghost use Rattle.laws.specs.Charging.{amountAt};
@@ -74,18 +77,18 @@ fn with_record(
     next
 }
 
-// In one pass over the records.
-pub fn sums_of(k: Book, account: usize, intraday: &[u8], closing: &[u8]) -> PerCurrency
-    requires { ⌜ (sound k ≡ true) × Fair (now intraday) (now closing) ⌝ }
-    ensures { λ r. ⌜ ((c : ℕ) → amountAt (r .sums) c ≡ sumOf k (priced (now (intraday .entry)) (now (closing .entry))) (markedOf k account) c) ⌝ }
+// In one pass over the records, each read where it stands.
+pub fn sums_of(book: &[u8], account: usize, intraday: &[u8], closing: &[u8]) -> PerCurrency
+    requires { ⌜ (length (now book) ≡ bookLength) × (sound (bookOf (now book)) ≡ true) × Fair (now intraday) (now closing) ⌝ }
+    ensures { λ r. ⌜ ((c : ℕ) → amountAt (r .sums) c ≡ sumOf (bookOf (now (book .entry))) (priced (now (intraday .entry)) (now (closing .entry))) (markedOf (bookOf (now (book .entry))) account) c) ⌝ }
 {
-    let codes = k.currency;
-    let n = k.records as usize;
+    let codes = codes_of(book);
+    let n = records_at(book) as usize;
     let none = Mils(Whole(0));
     let mut t = PerCurrency { sums: [none; 4] };
     let mut i: usize = 0;
     while i < n {
-        let p = k.positions[i];
+        let p = position_at(book, i);
         t = with_record(t, &codes, account, intraday, closing, p);
         i += 1;
     }

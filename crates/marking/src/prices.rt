@@ -60,7 +60,7 @@ pub fn wrong_tables(intraday: &[u8], closing: &[u8]) -> bool
 }
 
 // What the question is answered with: 0, or 18, 3, 5 or 17.
-pub fn price_refusal(intraday: &[u8], closing: &[u8], security: u8) -> u8
+fn price_refusal(intraday: &[u8], closing: &[u8], security: u8) -> u8
     ensures { λ r. ⌜ r ≡ priceAnswer (now (intraday .entry)) (now (closing .entry)) security ⌝ }
 {
     if wrong_tables(intraday, closing) {
@@ -82,7 +82,7 @@ pub fn price_refusal(intraday: &[u8], closing: &[u8], security: u8) -> u8
 pub fn price<'a>(intraday: &'a [u8], closing: &'a [u8], security: u8, refusal: &mut u8) -> &'a [u8]
     ensures { λ r. ⌜ (now r ≡ pricePart (now (intraday .entry)) (now (closing .entry)) security)
         × (now (refusal .exit) ≡ priceAnswer (now (intraday .entry)) (now (closing .entry)) security)
-        × (priceAnswer (now (intraday .entry)) (now (closing .entry)) security ≡ 0 → ptr r ≡ priceSpot (now (intraday .entry)) security (ptr (intraday .entry)) (ptr (closing .entry))) ⌝ }
+        × (ptr r ≡ priceSpot (now (intraday .entry)) (now (closing .entry)) security (ptr (intraday .entry)) (ptr (closing .entry))) ⌝ }
 {
     let fault = price_refusal(intraday, closing, security);
     *refusal = fault;

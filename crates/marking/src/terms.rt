@@ -7,8 +7,8 @@ ghost use mathlib.Core.List.{[]};
 ghost use lib.ListN.{length};
 ghost use Rattle.units.specs.Units.{topRate, wholeHaircut};
 ghost use Rattle.rules.specs.Words.{any, above, outside, first};
-ghost use Rattle.rules.specs.Marks.{wrongTerms, badRates};
-ghost use Rattle.marking.specs.SoundMarks.{terms, termsTests};
+ghost use Rattle.rules.specs.Marks.{terms, wrongTerms, badRates};
+ghost use Rattle.marking.specs.SoundMarks.{termsTests};
 ghost use Rattle.marking.specs.Passing.{rated};
 
 fn is_outside(rate: u32) -> bool

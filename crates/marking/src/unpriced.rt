@@ -1,6 +1,7 @@
 // "A record of 0 shares wants no price." 17: neither price table has a price for a record that wants one.
 use crate::prices::price_of;
-use rules::Book;
+use book::position_at;
+use book::records_at;
 use rules::Position;
 use sound_positions::account_of;
 use sound_positions::security_of;
@@ -8,9 +9,11 @@ ghost use mathlib.Core.Path.{_≡_};
 ghost use mathlib.Core.Bool.{_&&_};
 ghost use Prim.Native.Nat.{_≤_};
 ghost use lib.Dec.{eqb};
+ghost use lib.ListN.{length};
 ghost use Rattle.rules.specs.Words.{any};
 ghost use Rattle.rules.specs.Bounds.{mostRecords};
 ghost use Rattle.rules.specs.Book.{accountOf};
+ghost use Rattle.rules.specs.Layout.{bookLength, bookOf};
 ghost use Rattle.rules.specs.Marks.{lacksPrice, markedOf};
 ghost use Rattle.marking.specs.Pricing.{Tables};
 ghost use Rattle.marking.specs.Summing.{priced};
@@ -41,14 +44,15 @@ fn is_unpriced(p: Position, account: usize, intraday: &[u8], closing: &[u8]) -> 
     lacks_price(p, intraday, closing)
 }
 
-pub fn has_unpriced(k: Book, account: usize, intraday: &[u8], closing: &[u8]) -> bool
-    requires { ⌜ (k .records ≤ mostRecords) × Tables (now intraday) (now closing) ⌝ }
-    ensures { λ r. ⌜ r ≡ any (lacksPrice (priced (now (intraday .entry)) (now (closing .entry)))) (markedOf k account) ⌝ }
+// The account's records, each read where it stands.
+pub fn has_unpriced(book: &[u8], account: usize, intraday: &[u8], closing: &[u8]) -> bool
+    requires { ⌜ (length (now book) ≡ bookLength) × (bookOf (now book) .records ≤ mostRecords) × Tables (now intraday) (now closing) ⌝ }
+    ensures { λ r. ⌜ r ≡ any (lacksPrice (priced (now (intraday .entry)) (now (closing .entry)))) (markedOf (bookOf (now (book .entry))) account) ⌝ }
 {
-    let n = k.records as usize;
+    let n = records_at(book) as usize;
     let mut i: usize = 0;
     while i < n {
-        let p = k.positions[i];
+        let p = position_at(book, i);
         if is_unpriced(p, account, intraday, closing) {
             return true;
         }

@@ -2,8 +2,8 @@
 use borrow.Author.Needs.{needs}
 use mathlib.Core.Path.{_≡_, sym, _∙_}
 use native.Mathlib.Omega.{arith}
-use Rattle.rules.specs.Prices.{entryOf}
-use Rattle.marking.specs.Pricing.{Asked, asked, part-none, part-intraday, part-closing, spot-intraday, spot-closing}
+use Rattle.rules.specs.Prices.{entryOf, priceAnswer}
+use Rattle.marking.specs.Pricing.{Asked, asked, part-none, part-intraday, part-closing, spot-none, spot-intraday, spot-closing}
 use Rattle.marking.proofs.prices.price.Statement.{statement}
 use Rattle.marking.proofs.prices.price.Tie as tie
 
@@ -25,8 +25,10 @@ part-result-end c = search needs
 
 returns : tie.Need-returns
 returns c =
+    let a = c .before .before .before .before .before .args in
     let e = c .before .before .price-refusal .ensures in
-    (part-none _ _ _ (λ z. c .before .if1 .taken (e ∙ z)), e, λ z. absurd (c .before .if1 .taken (e ∙ z)))
+    let fault : priceAnswer (a .intraday .now) (a .closing .now) (a .security) ≡ 0 → ⊥ = λ z. c .before .if1 .taken (e ∙ z) in
+    (part-none _ _ _ fault, e, spot-none _ _ _ (a .intraday .ptr) (a .closing .ptr) fault)
 
 mul-at : tie.Need-mul-at
 mul-at c = search needs
@@ -51,7 +53,8 @@ returns-2 c =
     let a = c .before .before .before .before .before .before .before .args in
     let e = c .before .before .before .before .price-refusal .ensures in
     let some : entryOf (a .intraday .now) (a .security) ≡ 0 → ⊥ = λ w. c .before .if2 .taken (c .before .before .entry .ensures ∙ w) in
-    (part-intraday _ _ _ (sym e ∙ c .before .before .before .if1 .left) some, e, λ z. spot-intraday _ _ (a .intraday .ptr) (a .closing .ptr) some)
+    let fine = sym e ∙ c .before .before .before .if1 .left in
+    (part-intraday _ _ _ fine some, e, spot-intraday _ _ _ (a .intraday .ptr) (a .closing .ptr) fine some)
 
 sub-result-3 : tie.Need-sub-result-3
 sub-result-3 c = search needs
@@ -67,7 +70,8 @@ returns-3 c =
     let a = c .before .before .before .before .before .before .before .args in
     let e = c .before .before .before .before .price-refusal .ensures in
     let none = sym (c .before .before .entry .ensures) ∙ c .before .if2 .left in
-    (part-closing _ _ _ (sym e ∙ c .before .before .before .if1 .left) none, e, λ z. spot-closing _ _ (a .intraday .ptr) (a .closing .ptr) none)
+    let fine = sym e ∙ c .before .before .before .if1 .left in
+    (part-closing _ _ _ fine none, e, spot-closing _ _ _ (a .intraday .ptr) (a .closing .ptr) fine none)
 
 pub price-spec : {M : Type 1} → statement M
 price-spec =

@@ -2,8 +2,7 @@
 use borrow.Author.Needs.{needs}
 use borrow.Author.Tests.{eq-eqb, ne-eqb}
 use mathlib.Core.Path.{sym, _∙_}
-use Rattle.rules.specs.Marks.{Terms}
-use Rattle.marking.specs.SoundMarks.{terms}
+use Rattle.rules.specs.Marks.{Terms, terms}
 use Rattle.marking.specs.Passing.{wrong-split}
 use Rattle.marking.proofs.terms.wrong_terms.Statement.{statement}
 use Rattle.marking.proofs.terms.wrong_terms.Tie as tie
