@@ -4,4 +4,5 @@ mod record;
 
 pub use reading::Read;
 pub use reading::record_at;
+pub use record::other_version;
 pub use record::play_record;

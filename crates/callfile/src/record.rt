@@ -20,7 +20,8 @@ ghost use Rattle.callfile.specs.Bodies.{codesAt};
 ghost use Rattle.callfile.specs.Reading.{says};
 ghost use Rattle.callfile.specs.Answering.{Ready, ranAs};
 
-fn other_version(file: &[u8]) -> bool
+// An empty file has no version, and so another.
+pub fn other_version(file: &[u8]) -> bool
     ensures { λ r. ⌜ r ≡ otherVersion (now (file .entry)) ⌝ }
 {
     if file.len() == 0 {

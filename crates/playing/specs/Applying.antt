@@ -1,12 +1,12 @@
 -- The call of one record on the lent bytes of a book: its answer, its figure and the bytes that it leaves.
-use mathlib.Core.Path.{_≡_, refl, sym, ap, _∙_}
+use mathlib.Core.Path.{_≡_, refl, ap, _∙_}
 use mathlib.Core.Option.{Option, some, none}
 use mathlib.Core.List.{List}
 use Prim.Native.Nat.{ℕ}
 use lib.Dec.{eqb}
 use lib.IntN.{natAbs}
-use borrow.Author.Tests.{eqb-true}
 use Rattle.laws.specs.Cases.{by-test}
+use Rattle.laws.specs.EnumAnswers.{run-number, run-figure}
 use Rattle.rules.specs.Layout.{bookOf}
 use Rattle.rules.specs.Calls.{Call, enter, amend, exclude, roll, deposit, withdraw, run, figure, answerBytes, figureBytes, afterBytes, runAnswer, numberOfRun, figureOfRun}
 use Rattle.rules.specs.declared.RunAnswer.{RunAnswer}
@@ -41,16 +41,6 @@ bytesBy bs (some c) = afterBytes bs c
 abbrev pub Applied : List ℕ → ℕ → Read → ℕ → ℕ → List ℕ → Type 0
 Applied bs place found n f new = (n ≡ numberBy bs (callIn found)) × (f ≡ figureBy bs place (callIn found)) × (new ≡ bytesBy bs (callIn found))
 
--- ── the answer of a run ──
-
-run-number : (bs : List ℕ) (s : ℕ) → numberOfRun (runAnswer bs s) ≡ answerBytes bs (run s)
-unfolding runAnswer numberOfRun
-run-number bs s = by-test (eqb (answerBytes bs (run s)) 0) (λ y. rw y (sym (eqb-true (answerBytes bs (run s)) 0 y))) (λ y. rw y)
-
-run-figure : (bs : List ℕ) (s : ℕ) → natAbs (figureOfRun (runAnswer bs s)) ≡ figureBytes bs (run s)
-unfolding runAnswer figureOfRun figureBytes
-run-figure bs s = by-test (eqb (answerBytes bs (run s)) 0) (λ y. rw y) (λ y. rw y)
-
 -- ── by the ways that the code takes ──
 
 module _ (bs : List ℕ) (place : ℕ) (found g : Read) (is : found ≡ g) where
@@ -75,4 +65,4 @@ module _ (bs : List ℕ) (place : ℕ) (found g : Read) (is : found ≡ g) where
 
   pub ran : (s : ℕ) → callIn g ≡ some (run s) → (a : RunAnswer) → a ≡ runAnswer bs s → (n f : ℕ) (new : List ℕ) → n ≡ numberOfRun a → f ≡ natAbs (figureOfRun a)
       → new ≡ afterBytes bs (run s) → Applied bs place found n f new
-  ran s e a ea n f new en ef eb = applied (run s) e n f new (en ∙ ap numberOfRun ea ∙ run-number bs s, eb) (ef ∙ ap (λ (a : RunAnswer). natAbs (figureOfRun a)) ea ∙ run-figure bs s)
+  ran s e a ea n f new en ef eb = applied (run s) e n f new (en ∙ ap numberOfRun ea ∙ run-number bs s, eb) (ef ∙ ap (λ (a : RunAnswer). natAbs (figureOfRun a)) ea ∙ ap natAbs (run-figure bs s))

@@ -27,11 +27,6 @@ use Rattle.playing.specs.Playing.{textOf, nine, nine-long, answersLeft}
 
 -- ── what stands first ──
 
-pub empty-other : (file : List ℕ) → length file ≡ 0 → true ≡ otherVersion file
-unfolding otherVersion
-empty-other [] e = refl
-empty-other (b ∷ bs) e = absurd (omega (arith, e))
-
 pub version-there : (file : List ℕ) → otherVersion file ≡ false → 1 ≤ length file
 unfolding otherVersion
 version-there [] e = true-false refl e

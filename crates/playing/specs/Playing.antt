@@ -61,11 +61,11 @@ module _ (bs : List ℕ) (h : Holds bs) where
   holds-sound = rw (eq-eqb (length bs) bookLength (ap length (sym (h .same)) ∙ bytes-long (bookOf bs) (h .fits)), h .good .sound)
 
   module _ (c : Call) where
-    number-is : answerBytes bs c ≡ answered (bookOf bs) c .number
+    pub number-is : answerBytes bs c ≡ answered (bookOf bs) c .number
     unfolding answered
     number-is = ap (λ (l : List ℕ). answerBytes l c) (sym (h .same)) ∙ answer-bytes (bookOf bs) (h .fits) c
 
-    figure-is : figureBytes bs c ≡ answered (bookOf bs) c .figure
+    pub figure-is : figureBytes bs c ≡ answered (bookOf bs) c .figure
     unfolding answered
     figure-is = ap (λ (l : List ℕ). figureBytes l c) (sym (h .same)) ∙ figure-bytes (bookOf bs) (h .fits) c
 
@@ -77,10 +77,10 @@ module _ (bs : List ℕ) (h : Holds bs) where
       left-ok : book .Ok (left (bookOf bs) c)
       left-ok = left-fits (bookOf bs) (h .good) (h .fits) c fit
 
-      after-reads : bookOf (afterBytes bs c) ≡ left (bookOf bs) c
+      pub after-reads : bookOf (afterBytes bs c) ≡ left (bookOf bs) c
       after-reads = ap bookOf after-is ∙ book-bytes (left (bookOf bs) c) left-ok
 
-      after-holds : Holds (afterBytes bs c)
+      pub after-holds : Holds (afterBytes bs c)
       after-holds = subst Holds (sym after-is) (holds-of (left (bookOf bs) c) (left-good (bookOf bs) (h .good) c) left-ok)
 
 -- ── what is left, one record further ──
@@ -97,7 +97,7 @@ module _ (file : List ℕ) (place : ℕ) (there : place < length file) (k : Book
   unfolding made
   made-call c e = rw (left-call file place there c e) refl
 
-  fit-call : (c : Call) → recordAt file place ≡ call c → AllFit (leftAt file place .calls) → CallFits c × AllFit (next .calls)
+  pub fit-call : (c : Call) → recordAt file place ≡ call c → AllFit (leftAt file place .calls) → CallFits c × AllFit (next .calls)
   unfolding AllFit
   fit-call c e f = subst (λ (l : Contents). AllFit (l .calls)) (left-call file place there c e) f
 

@@ -22,13 +22,13 @@ ghost use Rattle.rules.specs.Calls.{numberOfRun, figureOfRun};
 ghost use Rattle.playing.specs.Applying.{callIn, numberBy, figureBy, bytesBy};
 
 // The number, and the figure: the shares that a run moved, or the place of a 19.
-pub struct Answer {
+pub(crate) struct Answer {
     pub number: u8,
     pub figure: u64,
 }
 
 // Only a run has a figure.
-fn plain(number: u8) -> Answer
+pub(crate) fn plain(number: u8) -> Answer
     ensures { λ r. ⌜ (r .number ≡ number) × (r .figure ≡ 0) ⌝ }
 {
     Answer {
@@ -62,7 +62,7 @@ fn unread(place: u64) -> Answer
 }
 
 // A create stands first and only there: it makes a book and is no call on one, so that it is unreadable here.
-pub fn apply(book: &mut [u8], found: Read, place: u64) -> Answer
+pub(crate) fn apply(book: &mut [u8], found: Read, place: u64) -> Answer
     requires { ⌜ notSound (now book) ≡ false ⌝ }
     ensures { λ r. ⌜ (r .number ≡ numberBy (now (book .entry)) (callIn found))
         × (r .figure ≡ figureBy (now (book .entry)) place (callIn found))

@@ -1,10 +1,9 @@
 // The whole call file as one call (document 01, "Call file and sheet").
+mod again;
 mod applying;
 mod walking;
 mod whole;
 
-pub use applying::Answer;
-pub use applying::apply;
 pub use walking::count_answers;
 pub use whole::Played;
 pub use whole::play;

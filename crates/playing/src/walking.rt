@@ -1,23 +1,16 @@
 // The walk over the records of a call file, from place to place (document 01, "Call file and sheet").
 use callfile::Read;
+use callfile::other_version;
 use callfile::record_at;
 use fields::get;
 ghost use mathlib.Core.Path.{_≡_};
 ghost use Prim.Native.Nat.{_+_, _<_, _≤_};
 ghost use lib.ListN.{length};
-ghost use Rattle.rules.specs.Records.{otherVersion};
+ghost use Rattle.rules.specs.Records.{recordAt};
 ghost use Rattle.rules.specs.CallFile.{fileOf};
+ghost use Rattle.callfile.specs.Bodies.{codesAt};
+ghost use Rattle.callfile.specs.Reading.{says};
 ghost use Rattle.playing.specs.Steps.{isNone, nextIn};
-
-// An empty file has no version, and so another.
-pub(crate) fn other_version(file: &[u8]) -> bool
-    ensures { λ r. ⌜ r ≡ otherVersion (now (file .entry)) ⌝ }
-{
-    if file.len() == 0 {
-        return true;
-    }
-    file[0] != 1
-}
 
 pub(crate) fn is_none(found: Read) -> bool
     ensures { λ r. ⌜ r ≡ isNone found ⌝ }
@@ -35,13 +28,12 @@ pub(crate) fn is_none(found: Read) -> bool
     }
 }
 
-// Where the record behind the one at a place begins. Behind an unreadable one the walk is at its end.
-pub(crate) fn next_place(file: &[u8], place: usize) -> usize
-    requires { ⌜ place ≤ length (now file) ⌝ }
+// Where the record behind the one that was found at a place begins. Behind an unreadable one the walk is at its end.
+pub(crate) fn next_place(file: &[u8], place: usize, found: Read) -> usize
+    requires { ⌜ (place ≤ length (now file)) × (says found (codesAt place (now file)) ≡ recordAt (now file) place) ⌝ }
     ensures { λ r. ⌜ (r ≡ nextIn (now (file .entry)) place) × (r ≤ length (now (file .entry)))
         × (place < length (now (file .entry)) → place < r) ⌝ }
 {
-    let found = record_at(file, place);
     if is_none(found) {
         return file.len();
     }
@@ -58,10 +50,10 @@ pub fn count_answers(file: &[u8]) -> usize
     }
     let n = file.len();
     let mut count: usize = 1;
-    let mut place = next_place(file, 1);
+    let mut place = next_place(file, 1, record_at(file, 1));
     while place < n {
         count += 1;
-        place = next_place(file, place);
+        place = next_place(file, place, record_at(file, place));
     }
     count
 }

@@ -1,12 +1,13 @@
 // The whole call file as one call (document 01, "Call file and sheet"): every record in order, on the book that the
 // create at its front makes. Soundness is not tested: the create makes a sound book, and every call keeps it.
-use crate::applying::apply;
+use crate::again::apply_again;
+use crate::again::refused_behind;
 use crate::applying::put_answer;
 use crate::walking::count_answers;
 use crate::walking::is_none;
 use crate::walking::next_place;
-use crate::walking::other_version;
 use book::BOOK_BYTES;
+use callfile::other_version;
 use callfile::record_at;
 use house::create;
 ghost use mathlib.Core.Path.{_≡_};
@@ -35,11 +36,13 @@ fn play_calls(book: &mut [u8], file: &[u8], answers: &mut [u8])
     let n = file.len();
     let mut place: usize = 36;
     let mut at: usize = 9;
+    let mut refused: u8 = 0;
     while place < n {
         let found = record_at(file, place);
-        let a = apply(book, found, place as u64);
+        let a = apply_again(book, found, place as u64, refused);
+        refused = refused_behind(found, a.number, a.figure, refused);
         put_answer(answers, at, a.number, a.figure);
-        place = next_place(file, place);
+        place = next_place(file, place, found);
         at += 9;
     }
 }
