@@ -4,7 +4,7 @@
     python3 tests/sheets.py
 
 The files of tests/vectors with their sheets; one file for each sort of damage that the rules document names, with the
-sheet that it says; and files at and past the longest length.
+sheet that it says; and files at and past the longest length, one of them with the longest sheet that we know.
 """
 from pathlib import Path
 
@@ -67,6 +67,30 @@ lengths = [
     # rolls to the longest length: 36 bytes and 21,833 rolls of 3
     (created("000104" * 21_833), "DAY 21833\nE 1\n"),
 ]
+
+
+# the longest sheet that we know: on two days 256 trades, each with an account's first net in a security on either side,
+# fill the position table; behind one trade more every roll is refused with 10
+ROLL = "000104"
+SHARES, PRICE = 999_983, 9_999_991
+
+
+def enter(trade):
+    number, buyer, security = trade + 1, trade % 32 * 2, trade // 32
+    return f"000e01{number:04x}{buyer:02x}{buyer + 1:02x}{security:02x}{SHARES:08x}{PRICE:08x}"
+
+
+full = "01002100" + "00" * 32 + ("".join(enter(t) for t in range(256)) + ROLL) * 2 + enter(0)
+refused = (65_535 - len(full) // 2) // 3
+lines = [f"R {516 + i} 10" for i in range(refused)] + ["DAY 2"]
+for due in (2, 3):
+    for account in range(64):
+        sign = "-" if account % 2 else ""
+        for security in range(8):
+            number = due * 2_048 + account * 32 + security
+            lines.append(f"P {number} {account} {security} {sign}{SHARES} {sign}{SHARES * PRICE}")
+lines.append(f"E {len(lines)}")
+lengths.append((bytes.fromhex(full + ROLL * refused), "\n".join(lines) + "\n"))
 
 container, expected = b"", ""
 for file, sheet in files + damage + lengths:

@@ -1,13 +1,13 @@
 -- The answers of a file, read back from their bytes, 9 each: number 1, figure 8. And their lines as a loop over the bytes meets them.
 use mathlib.Core.Path.{_≡_, refl, sym, ap, ap₂, _∙_}
-use mathlib.Core.Bool.{Bool, true, false, cond, not, _||_}
+use mathlib.Core.Bool.{Bool, true, not, _||_}
 use mathlib.Core.List.{List, [], _∷_, _++_, map, append-assoc}
 use Prim.Native.Nat.{ℕ, zero, suc, _+_, _*_, _-_, _^_, _≤_, _<_}
 use native.Mathlib.Omega.{arith}
 use native.Mathlib.Numerals.{add-one}
 use lib.Dec.{eqb, ltb}
 use lib.ListN.{length, length-append, length-map}
-use borrow.Author.Tests.{eq-eqb, ne-eqb, ltb-true}
+use borrow.Author.Tests.{eq-eqb, ne-eqb, eqb-true, lt-ltb, ltb-true}
 use Rattle.fields.specs.Field.{field, digits}
 use Rattle.fields.specs.FieldLaws.{length-digits, field-digits}
 use Rattle.rules.specs.Words.{all, each, from}
@@ -15,8 +15,10 @@ use Rattle.rules.specs.CallFile.{Answer}
 use Rattle.rules.specs.Sheet.{answerLine, answerLines}
 use Rattle.rules.specs.declared.Line.{Line}
 use Rattle.rules.specs.declared.Line.the-variants.{Refusal, Place}
-use Rattle.laws.specs.Cases.{cond-yes, cond-no}
+use Rattle.laws.specs.Cases.{by-test, and-hold, cond-yes, cond-no}
 use Rattle.laws.specs.All.{all-cons}
+use Rattle.sheet_laws.specs.AnswersFit.{Fits, AllFit, fit-none, fit-more}
+use Rattle.sheet_laws.specs.AnswerWidths.{few-answers}
 
 -- ── definitions ──
 
@@ -40,21 +42,12 @@ placeFits a = not (eqb (a .number) 19) || ltb (a .figure) (2 ^ 32)
 
 -- ── what is written is read back ──
 
--- a number in 1 byte, a figure in 8
-pub record Fits (a : Answer) : Type 0 where
-  pub number : a .number < 256
-  pub figure : a .figure < 2 ^ 64
-
-pub data AllFit : List Answer → Type 0 where
-  fit-none : AllFit []
-  fit-more : {a : Answer} {rest : List Answer} → Fits a → AllFit rest → AllFit (a ∷ rest)
-
 read-one : (p q : List ℕ) (i : ℕ) (a : Answer) → length p ≡ i * 9 → Fits a → answerAt (p ++ (code a ++ q)) i ≡ a
 read-one p q i a e h =
     let ds = digits 1 (a .number) in
     let fs = digits 8 (a .figure) in
     let one : field 1 (i * 9) (p ++ (code a ++ q)) ≡ a .number =
-    ap (λ (m : List ℕ). field 1 (i * 9) (p ++ m)) (append-assoc ds fs q) ∙ field-digits 1 (a .number) p (fs ++ q) (i * 9) e (h .number) in
+    ap (λ (m : List ℕ). field 1 (i * 9) (p ++ m)) (append-assoc ds fs q) ∙ field-digits 1 (a .number) p (fs ++ q) (i * 9) e (omega (arith, h .number)) in
     let long : length (p ++ ds) ≡ i * 9 + 1 = length-append p ds ∙ omega (arith, length-digits 1 (a .number)) in
     let two : field 8 (i * 9 + 1) (p ++ (code a ++ q)) ≡ a .figure =
     ap (field 8 (i * 9 + 1)) (ap (λ (m : List ℕ). p ++ m) (append-assoc ds fs q) ∙ sym (append-assoc p ds (fs ++ q)))
@@ -113,6 +106,16 @@ unfolding from answerLines
 left-done count bs i h = let e : count - i ≡ 0 = omega arith in ap (λ (n : ℕ). answerLines i (map (answerAt bs) (from i n))) e
 
 -- the places fit
+pub places-fit : (l : List Answer) → AllFit l → all placeFits l ≡ true
+unfolding all placeFits
+places-fit l fit-none = refl
+places-fit l (fit-more {a = a} {rest = rest} h r) =
+    let here : placeFits a ≡ true =
+    by-test (eqb (a .number) 19)
+    (λ e. rw e (lt-ltb (a .figure) (2 ^ 32) (omega (arith, h .place (eqb-true (a .number) 19 e)))))
+    (λ e. rw e) in
+    and-hold here (places-fit rest r)
+
 pub fits-more : (count : ℕ) (bs : List ℕ) (i : ℕ) → i < count → all placeFits (answersLeft count bs i) ≡ true
     → (placeFits (answerAt bs i) ≡ true) × (all placeFits (answersLeft count bs (i + 1)) ≡ true)
 fits-more count bs i h e =
@@ -137,16 +140,7 @@ pub line-refusal : (i number figure : ℕ) → (number ≡ 0 → ⊥) → (numbe
 unfolding answerLine
 line-refusal i number figure z n = cond-no _ _ (ne-eqb number 0 z) ∙ cond-no _ _ (ne-eqb number 19 n)
 
--- ── it is at most one ──
-
-one-line : (i : ℕ) (a : Answer) → length (answerLine i a) ≤ 1
-unfolding answerLine
-one-line i a = go (eqb (a .number) 0) (eqb (a .number) 19)
-  where
-    go : (b c : Bool) → length (cond b [] (cond c (Place (a .figure) ∷ []) (Refusal i (a .number) ∷ []))) ≤ 1
-    go true c = omega arith
-    go false true = omega arith
-    go false false = omega arith
+-- ── they are few ──
 
 length-from : (i n : ℕ) → length (from i n) ≡ n
 unfolding from
@@ -156,11 +150,6 @@ length-from i (suc n) = ap suc (length-from (suc i) n)
 length-answers : (count : ℕ) (bs : List ℕ) → length (answersIn count bs) ≡ count
 unfolding answersIn
 length-answers count bs = length-map (from 0 count) (answerAt bs) ∙ length-from 0 count
-
-pub few-answers : (i : ℕ) (l : List Answer) → length (answerLines i l) ≤ length l
-unfolding answerLines
-few-answers i [] = omega arith
-few-answers i (a ∷ l) = omega (arith, one-line i a, few-answers (suc i) l, length-append (answerLine i a) (answerLines (suc i) l))
 
 pub few-lines : (count : ℕ) (bs : List ℕ) → length (answerLines 0 (answersIn count bs)) ≤ count
 few-lines count bs = omega (arith, few-answers 0 (answersIn count bs), length-answers count bs)

@@ -1,13 +1,13 @@
 -- The lines of the book as loops over its tables meet them: the open positions one by one, the charges at their 256 places.
 use mathlib.Core.Path.{_≡_, refl, sym, ap, ap₂, _∙_}
-use mathlib.Core.Bool.{Bool, true, false, cond}
+use mathlib.Core.Bool.{cond}
 use mathlib.Core.List.{List, [], _∷_, _++_, map, append-assoc}
 use Prim.Native.Nat.{ℕ, zero, suc, _+_, _*_, _-_, _/_, _%_, _≤_, _<_}
 use native.Mathlib.Nat.{zero-add, suc-add}
 use native.Mathlib.Omega.{arith}
 use native.Mathlib.Numerals.{add-one}
 use lib.IntN.{pos, natAbs}
-use lib.ListN.{length, getD, take, drop, length-append, length-map}
+use lib.ListN.{length, getD, take, drop}
 use lib.Seq.{drop-cons, getD-take, length-take-le, drop-length}
 use borrow.Author.Tests.{eq-eqb, ne-eqb}
 use Rattle.units.specs.Units.{mils, milsOf}
@@ -130,27 +130,3 @@ same-entry k a c h =
 pub charges-are : (k : Book) → chargeLines k ≡ entryLines (k .charges)
 unfolding chargeLines entryLines everyAccount everyCurrency
 charges-are k = places-are (chargeLine k) (entryAt (k .charges)) (same-entry k) 64 0
-
--- ── how many lines ──
-
-one-charge : (a c : ℕ) (m : Mils) → length (chargeEntry a c m) ≤ 1
-unfolding chargeEntry
-one-charge a c m = go (isZero (milsOf m))
-  where
-    go : (b : Bool) → length (cond b [] (Charge a c m ∷ [])) ≤ 1
-    go true = omega arith
-    go false = omega arith
-
-few-entries : (cs : List Mils) (n i : ℕ) → length (each (entryAt cs) (from i n)) ≤ n
-unfolding each from
-few-entries cs zero i = omega arith
-few-entries cs (suc n) i =
-    let rest = each (entryAt cs) (from (suc i) n) in
-    omega (arith, one-charge (i / 4) (i % 4) (getD cs i (mils (pos 0))), few-entries cs n (suc i), length-append (entryAt cs i) rest)
-
-pub few-charges : (cs : List Mils) → length (entryLines cs) ≤ 256
-unfolding entryLines
-few-charges cs = few-entries cs 256 0
-
-pub few-open : (ps : List Position) (n : ℕ) → n ≤ length ps → length (map openLine (take n ps)) ≡ n
-few-open ps n h = length-map (take n ps) openLine ∙ length-take-le n ps h

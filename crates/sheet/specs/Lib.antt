@@ -5,8 +5,6 @@ pub mod Answers
 pub mod BookLines
 pub mod Whole
 pub mod Refused
--- what a file gives: its answers fit and are few, and the sheet of their bytes and the book's is the sheet of the file
-pub mod AnswersFit
-pub mod AnswersFew
+-- what a file gives: the sheet of the bytes of its answers and of its book is the sheet of the file
 pub mod OfFile
 pub mod OfBook

@@ -19,10 +19,11 @@ use Rattle.rules.specs.CallFile.{Answer, Placed, Contents, isUnreadable, record
 use Rattle.rules.specs.Sheet.{textOf, answerLines, bookLines, ended, linesOf, refusedSheet, sheetOf}
 use Rattle.rules.specs.declared.Book.{Book}
 use Rattle.laws.specs.Cases.{true-false, cond-yes, cond-no}
-use Rattle.sheet.specs.Answers.{code, length-code, answersIn, placeFits, answers-back}
+use Rattle.sheet_laws.specs.AnswersFew.{file-few}
+use Rattle.sheet_laws.specs.AnswersFit.{file-fits}
+use Rattle.sheet_laws.specs.BookLeft.{isThere}
+use Rattle.sheet.specs.Answers.{code, length-code, answersIn, placeFits, places-fit, answers-back}
 use Rattle.sheet.specs.Whole.{bookIf, linesAbove, sheetLines, sheetText, Printable}
-use Rattle.sheet.specs.AnswersFit.{file-good}
-use Rattle.sheet.specs.AnswersFew.{file-few}
 
 -- ── the bytes of the answers are read back ──
 
@@ -42,13 +43,9 @@ length-bytes file = ap length (bytes-are file) ∙ length-codes (fileOf file .an
 pub answers-are : (file rest : List ℕ) (count : ℕ) → tooLong file ≡ false → count ≡ length (fileOf file .answers)
     → answersIn count (answersOf file ++ rest) ≡ fileOf file .answers
 answers-are file rest count e n =
-    ap₂ (λ (m : ℕ) (bs : List ℕ). answersIn m (bs ++ rest)) n (bytes-are file) ∙ answers-back (fileOf file .answers) rest (file-good file e .fit)
+    ap₂ (λ (m : ℕ) (bs : List ℕ). answersIn m (bs ++ rest)) n (bytes-are file) ∙ answers-back (fileOf file .answers) rest (file-fits file e)
 
 -- ── whether a book exists: the first answer is the create's ──
-
-unfoldable pub isThere : {A : Type 0} → Option A → Bool
-isThere none = false
-isThere (some a) = true
 
 played-there : (k : Book) (cs : List Call) → isThere (played k cs .book) ≡ true
 unfolding played isThere
@@ -127,7 +124,7 @@ module _ (file rest : List ℕ) (count : ℕ) (exists : Bool) (k : Book) (short 
       record {
         within = omega (arith, length-append (answersOf file) rest, length-bytes file);
         few = omega (arith, file-few file short);
-        places = ap (all placeFits) (answers-are file rest count short n) ∙ file-good file short .places;
+        places = ap (all placeFits) (answers-are file rest count short n) ∙ places-fit (fileOf file .answers) (file-fits file short);
         records = few;
       }
 

@@ -1,18 +1,14 @@
 -- The sheet of a refused file, in the steps of the code.
-use mathlib.Core.Path.{_≡_, refl, sym, ap, _∙_}
+use mathlib.Core.Path.{_≡_, sym, ap, _∙_}
 use mathlib.Core.List.{List, _++_, append-nil}
 use Prim.Native.Nat.{ℕ, _+_, _≤_}
 use lib.ListN.{length, drop, length-append}
 use Rattle.fields.specs.Field.{stored}
 use Rattle.fields.specs.FieldLaws.{after}
-use Rattle.rules.specs.Words.{each, text}
-use Rattle.rules.specs.Sheet.{digitsBy, decimal, spaced, textOf, ended, refusedSheet}
+use Rattle.rules.specs.Words.{each}
+use Rattle.rules.specs.Sheet.{textOf, ended, refusedSheet}
 use Rattle.rules.specs.declared.Line.the-variants.{Refusal, End}
 use Rattle.sheet.specs.Whole.{front-is}
-
-pub refused-length : length (each textOf refusedSheet) ≡ 11
-unfolding each refusedSheet ended textOf text spaced decimal digitsBy
-refused-length = refl
 
 refused-is : each textOf refusedSheet ≡ textOf (Refusal 0 18) ++ textOf (End 1)
 unfolding each refusedSheet ended

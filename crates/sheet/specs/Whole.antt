@@ -16,10 +16,11 @@ use Rattle.rules.specs.Sheet.{textOf, openLine, answerLines, bookLines, ended}
 use Rattle.rules.specs.declared.Book.{Book}
 use Rattle.rules.specs.declared.Line.{Line}
 use Rattle.rules.specs.declared.Line.the-variants.{Day, End}
+use Rattle.sheet_laws.specs.BookWidths.{few-book-lines}
 use Rattle.sheet.specs.declared.Reach.{Reach}
 use Rattle.sheet.specs.Written.{Ready, Wrote, start, textsOf, putIf, place-of, lines-of}
 use Rattle.sheet.specs.Answers.{answersIn, placeFits, few-lines}
-use Rattle.sheet.specs.BookLines.{entryLines, charges-are, few-charges, few-open}
+use Rattle.sheet.specs.BookLines.{entryLines, charges-are}
 
 -- ── definitions ──
 
@@ -58,20 +59,10 @@ pub book-no : (exists : Bool) (k : Book) → exists ≡ false → [] ≡ bookLin
 unfolding bookIf bookLines
 book-no exists k e = ap (λ (b : Bool). bookLines (cond b (some k) none)) (sym e)
 
-few-book : (exists : Bool) (k : Book) → length (k .positions) ≡ 1024 → (exists ≡ true → k .records ≤ mostRecords)
-    → length (bookLines (bookIf exists k)) ≤ 1_281
-few-book true k long r =
-    let ps = map openLine (take (k .records) (k .positions)) in
-    let room = r refl in
-    omega (
-      arith,
-      ap length (book-yes true k refl),
-      ap length (book-lines k),
-      length-append ps (entryLines (k .charges)),
-      few-open (k .positions) (k .records) (omega arith),
-      few-charges (k .charges),
-    )
-few-book false k long r = omega (arith, ap length (book-no false k refl))
+few-book : (exists : Bool) (k : Book) → (exists ≡ true → k .records ≤ mostRecords) → length (bookLines (bookIf exists k)) ≤ 1_281
+unfolding bookIf
+few-book true k r = few-book-lines k (r refl)
+few-book false k r = omega (arith, ap length (book-no false k refl))
 
 -- ── the whole ──
 
@@ -102,10 +93,10 @@ lines-above w count answers exists k bs cs ds s t one two =
     let ys = bookLines (bookIf exists k) in
     omega (arith, lines-of s start xs (one .reach), lines-of t s ys (two .reach), ap length (above-is count answers exists k), length-append xs ys)
 
-pub ready-sheet : (w : Bool) (n count : ℕ) (answers : List ℕ) (exists : Bool) (k : Book) → length (k .positions) ≡ 1024 → Printable count answers exists k
+pub ready-sheet : (w : Bool) (n count : ℕ) (answers : List ℕ) (exists : Bool) (k : Book) → Printable count answers exists k
     → (w ≡ true → length (sheetText count answers exists k) ≤ n) → Ready w n start (sheetLines count answers exists k)
 unfolding sheetText
-ready-sheet w n count answers exists k long h fits =
+ready-sheet w n count answers exists k h fits =
     let above = linesAbove count answers exists k in
     let e = sheet-is count answers exists k in
     record {
@@ -119,7 +110,7 @@ ready-sheet w n count answers exists k long h fits =
             ap length (above-is count answers exists k),
             length-append (answerLines 0 (answersIn count answers)) (bookLines (bookIf exists k)),
             few-lines count answers,
-            few-book exists k long (h .records),
+            few-book exists k (h .records),
             h .few,
           );
     }

@@ -12,6 +12,8 @@ use Rattle.rules.specs.Words.{each}
 use Rattle.rules.specs.Sheet.{textOf}
 use Rattle.rules.specs.declared.Line.{Line}
 use Rattle.laws.specs.Cases.{true-false}
+use Rattle.sheet_laws.specs.Widths.{each-append, each-one, length-both}
+use Rattle.sheet_laws.specs.Bounded.{mostLines}
 use Rattle.sheet.specs.declared.Reach.{Reach}
 
 -- ── definitions ──
@@ -32,10 +34,6 @@ reached r ls = record { place = r .place + length (textsOf ls); lines = r .lines
 unfoldable pub putIf : Bool → List ℕ → ℕ → List ℕ → List ℕ
 putIf w bs at xs = cond w (stored bs at xs) bs
 
--- a sheet has at most as many lines as this: 21,846 answers, 1,024 records, 256 charges, DAY and E
-abbrev pub mostLines : ℕ
-mostLines = 30_000
-
 -- What a writer asks: lines that are written fit into the n bytes of the buffer; lines that are only measured keep within 64 bits,
 -- since each has at most 114 bytes.
 pub record Ready (w : Bool) (n : ℕ) (r : Reach) (ls : List Line) : Type 0 where
@@ -48,20 +46,6 @@ pub record Wrote (w : Bool) (bs : List ℕ) (r : Reach) (ls : List Line) (cs : L
   pub reach : s ≡ reached r ls
   pub bytes : cs ≡ putIf w bs (r .place) (textsOf ls)
   pub narrow : w ≡ false → s .place ≤ 114 * s .lines
-
--- ── texts of lines one behind the other ──
-
-pub each-append : {A B : Type 0} (f : A → List B) (l m : List A) → each f (l ++ m) ≡ each f l ++ each f m
-unfolding each
-each-append f [] m = refl
-each-append f (x ∷ l) m = rw (each-append f l m) (sym (append-assoc (f x) (each f l) (each f m)))
-
-pub each-one : {A B : Type 0} (f : A → List B) (x : A) → each f (x ∷ []) ≡ f x
-unfolding each
-each-one f x = append-nil (f x)
-
-length-texts : (xs ys : List Line) → length (textsOf (xs ++ ys)) ≡ length (textsOf xs) + length (textsOf ys)
-length-texts xs ys = ap length (each-append textOf xs ys) ∙ length-append (textsOf xs) (textsOf ys)
 
 -- ── how far the sheet has come ──
 
@@ -114,7 +98,7 @@ module _ (w : Bool) where
       let n = lines-of s r xs (h .reach) in
       record {
         reach =
-            reach-of t r (xs ++ ys) (omega (arith, place-of t s ys (k .reach), length-texts xs ys))
+            reach-of t r (xs ++ ys) (omega (arith, place-of t s ys (k .reach), length-both textOf xs ys))
             (omega (arith, lines-of t s ys (k .reach), length-append xs ys));
         bytes =
             put-more w bs cs ds (r .place) (s .place) (textsOf xs) (textsOf ys) (h .bytes) (k .bytes) p
@@ -125,7 +109,7 @@ module _ (w : Bool) where
   pub ready-left : (n : ℕ) (r : Reach) (xs ys : List Line) → Ready w n r (xs ++ ys) → Ready w n r xs
   ready-left n r xs ys h =
       record {
-        fits = λ e. let f = h .fits e in omega (arith, length-texts xs ys);
+        fits = λ e. let f = h .fits e in omega (arith, length-both textOf xs ys);
         narrow = h .narrow;
         few = omega (arith, h .few, length-append xs ys);
       }
@@ -133,7 +117,7 @@ module _ (w : Bool) where
   pub ready-right : (n : ℕ) (bs cs : List ℕ) (r s : Reach) (xs ys : List Line) → Ready w n r (xs ++ ys) → Wrote w bs r xs cs s → Ready w n s ys
   ready-right n bs cs r s xs ys h k =
       record {
-        fits = λ e. let f = h .fits e in omega (arith, length-texts xs ys, place-of s r xs (k .reach));
+        fits = λ e. let f = h .fits e in omega (arith, length-both textOf xs ys, place-of s r xs (k .reach));
         narrow = k .narrow;
         few = omega (arith, h .few, length-append xs ys, lines-of s r xs (k .reach));
       }

@@ -1,11 +1,12 @@
 -- A text is written in front of a buffer, if it fits; and the whole sheet by the ways that the code takes.
 use mathlib.Core.Path.{_≡_, refl, sym, ap, subst, _∙_}
-use mathlib.Core.Bool.{Bool, true, false, cond, not, _||_}
+use mathlib.Core.Bool.{Bool, true, false, cond, _||_}
 use mathlib.Core.List.{List, _++_}
 use Prim.Native.Nat.{ℕ, _+_, _≤_, _<_}
 use native.Mathlib.Omega.{arith}
 use lib.Dec.{eqb, ltb}
-use lib.ListN.{length, drop}
+use lib.ListN.{length, take, drop, length-append}
+use lib.Seq.{take-append-seam}
 use borrow.Author.Tests.{eq-eqb, ne-eqb, lt-ltb, le-ltb, ltb-false}
 use Rattle.fields.specs.Field.{Bytes, stored, field}
 use Rattle.fields.specs.FieldLaws.{stored-eq, length-stored}
@@ -18,9 +19,11 @@ use Rattle.rules.specs.CallFile.{fileOf, answersOf, bytesLeft}
 use Rattle.rules.specs.Sheet.{textOf, refusedSheet, sheetOf, sheetRefused, sheetAnswer, sheetSize, sheetBytes, sheetBook}
 use Rattle.rules.specs.declared.Book.{Book}
 use Rattle.laws.specs.Cases.{cond-yes, cond-no}
+use Rattle.sheet_laws.specs.AnswersFew.{file-few}
+use Rattle.sheet_laws.specs.BookLeft.{isThere}
+use Rattle.sheet_laws.specs.Bounded.{mostBytes, sheet-fits}
 use Rattle.sheet.specs.Whole.{Printable, sheetText}
-use Rattle.sheet.specs.AnswersFew.{file-few}
-use Rattle.sheet.specs.OfFile.{isThere, length-bytes, exists-is, refused-is-file}
+use Rattle.sheet.specs.OfFile.{length-bytes, exists-is, refused-is-file}
 use Rattle.sheet.specs.OfBook.{existsIn, leftIn, left-bytes, bytes-printable, bytes-sheet}
 
 -- ── definitions ──
@@ -179,3 +182,18 @@ module _ (book file buffer : List ℕ) (n size : ℕ) where
           w .1 ∙ ap (λ (b : Bool). cond b book (bytesLeft book (fileOf file .book))) (sym same),
           size-within (sheetOf file) buffer n size buffer′ q,
         )
+
+-- ── a buffer that every sheet fits into ──
+
+module _ (book file buffer : List ℕ) (n size : ℕ) (book′ buffer′ : List ℕ) (done : Done book file buffer n size book′ buffer′) (bytes : Bytes file)
+    (right : length book ≡ bookLength) (wide : mostBytes ≤ length buffer) where
+  pub whole-sheet : (size ≡ length (sheetOf file)) × (buffer′ ≡ sheetOf file ++ drop (length (sheetOf file)) buffer)
+  whole-sheet = let f = sheet-fits file bytes book buffer right wide in (done .1 ∙ f .1, done .2 ∙ f .2)
+
+-- the part in front of the buffer that it fills
+module _ (file buffer buffer′ : List ℕ) (size : ℕ) (put : (size ≡ length (sheetOf file)) × (buffer′ ≡ sheetOf file ++ drop (length (sheetOf file)) buffer)) where
+  pub part-is : take size buffer′ ≡ sheetOf file
+  part-is = rw (put .1, put .0) (take-append-seam (sheetOf file) (drop (length (sheetOf file)) buffer))
+
+  pub part-within : size ≤ length buffer′
+  part-within = omega (arith, put .0, ap length (put .1), length-append (sheetOf file) (drop (length (sheetOf file)) buffer))

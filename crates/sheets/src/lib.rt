@@ -13,12 +13,15 @@ use sheet::refused_width;
 use sheet::sheet_width;
 ghost use mathlib.Core.Path.{_≡_};
 ghost use mathlib.Core.Bool.{cond};
+ghost use mathlib.Core.List.{_++_};
 ghost use Prim.Native.Nat.{_≤_};
-ghost use lib.ListN.{length};
+ghost use lib.ListN.{length, drop};
+ghost use denote.Ref.{ptr};
 ghost use Rattle.rules.specs.Words.{each};
 ghost use Rattle.rules.specs.Bounds.{mostFile};
 ghost use Rattle.rules.specs.Layout.{bookLength, bytesOf};
 ghost use Rattle.rules.specs.Sheet.{textOf, refusedSheet, sheetOf, sheetAnswer, sheetSize, sheetBytes, sheetBook};
+ghost use Rattle.sheet_laws.specs.Bounded.{mostBytes};
 ghost use Rattle.sheets.specs.Sheets.{Printed, Written, Room};
 
 // The number of the answer, and how long the sheet is.
@@ -111,4 +114,24 @@ pub fn sheet(book: &mut [u8], file: &[u8], buffer: &mut [u8]) -> SheetAnswer
         return refused_sheet(buffer);
     }
     played_sheet(book, file, buffer)
+}
+
+// The sheet of a file, and never a refusal: every sheet fits into 295,620 bytes.
+pub fn sheet_of(file: &[u8], buffer: &mut [u8]) -> usize
+    requires { ⌜ mostBytes ≤ length (now buffer) ⌝ }
+    ensures { λ r. ⌜ (r ≡ length (sheetOf (now (file .entry))))
+        × (now (buffer .exit) ≡ sheetOf (now (file .entry)) ++ drop (length (sheetOf (now (file .entry)))) (now (buffer .entry))) ⌝ }
+{
+    let mut book = [0u8; 42278];
+    let answer = sheet(&mut book, file, buffer);
+    answer.size
+}
+
+// The same with the part handed back: all of the sheet, from the front of the buffer.
+pub fn sheet_part<'a>(file: &[u8], buffer: &'a mut [u8]) -> &'a mut [u8]
+    requires { ⌜ mostBytes ≤ length (now buffer) ⌝ }
+    ensures { λ r. ⌜ (now r ≡ sheetOf (now (file .entry))) × (ptr r ≡ ptr (buffer .entry)) ⌝ }
+{
+    let size = sheet_of(file, buffer);
+    &mut buffer[..size]
 }

@@ -5,11 +5,9 @@ use libc::STDIN_FILENO;
 use libc::STDOUT_FILENO;
 
 fn print_sheet(file: &[u8]) {
-    let mut book = [0u8; 42278];
-    let mut buffer = [0u8; 320000];
-    let answer = sheets::sheet(&mut book, file, &mut buffer);
-    let sheet = &buffer[..];
-    io::write_all(STDOUT_FILENO, &sheet[..answer.size]);
+    let mut buffer = [0u8; 295620];
+    let sheet = sheets::sheet_part(file, &mut buffer);
+    io::write_all(STDOUT_FILENO, sheet);
 }
 
 // Reads a file that fills the room, and prints its sheet.

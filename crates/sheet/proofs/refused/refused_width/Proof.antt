@@ -1,6 +1,6 @@
 -- `sheet::refused::refused_width` meets its contract. Assumes nothing.
 use mathlib.Core.Path.{sym}
-use Rattle.sheet.specs.Refused.{refused-length}
+use Rattle.sheet_laws.specs.Bounded.{refused-length}
 use Rattle.sheet.proofs.refused.refused_width.Statement.{statement}
 use Rattle.sheet.proofs.refused.refused_width.Tie as tie
 

@@ -5,7 +5,6 @@ use Prim.Native.Nat.{ℕ}
 use native.Mathlib.Omega.{arith}
 use lib.ListN.{length}
 use borrow.Author.Needs.{needs}
-use Rattle.fields.specs.Lengths.{unmapped}
 use Rattle.rules.specs.Sheet.{answerLines, bookLines}
 use Rattle.rules.specs.declared.Line.{Line}
 use Rattle.rules.specs.declared.Line.the-variants.{End}
@@ -14,9 +13,6 @@ use Rattle.sheet.specs.Answers.{answersIn}
 use Rattle.sheet.specs.Whole.{bookIf, linesAbove, sheetLines, sheet-parts, lines-above, ready-sheet}
 use Rattle.sheet.proofs.whole.put_lines.Statement.{statement}
 use Rattle.sheet.proofs.whole.put_lines.Tie as tie
-
-long : (c : tie.Start) → length (c .args .k .positions) ≡ 1024
-long c = search (needs, unmapped)
 
 -- the lines of the sheet, and how many are above the last
 abbrev lines : tie.Start → List Line
@@ -30,7 +26,7 @@ parts : (c : tie.Start) (n : ℕ) → n ≡ above c
 parts c n e = sheet-parts (c .args .count) (c .args .answers .now) (c .args .exists) (c .args .k) n e
 
 ready : (c : tie.Start) → Ready (c .args .write) (length (c .args .buffer .now)) start (lines c)
-ready c = ready-sheet _ _ _ _ _ _ (long c) (c .pre .0) (c .pre .1)
+ready c = ready-sheet _ _ _ _ _ _ (c .pre .0) (c .pre .1)
 
 put-answers-requires : tie.Need-put-answers-requires
 put-answers-requires c κs =

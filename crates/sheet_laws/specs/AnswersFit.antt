@@ -1,4 +1,4 @@
--- The answers of a whole file fit: a number in 1 byte, a figure in 8, and the place of a 19 in 32 bits.
+-- What the answers of a whole file fit into: a number in two digits, and so in 1 byte; a figure in 8; the place of a 19 is within the file.
 use mathlib.Core.Path.{_≡_, refl}
 use mathlib.Core.Bool.{Bool, true, false, cond, not}
 use mathlib.Core.List.{List, [], _∷_, _++_}
@@ -8,7 +8,7 @@ use native.Mathlib.Omega.{arith}
 use lib.Dec.{eqb, leb, ltb}
 use lib.IntN.{natAbs}
 use lib.ListN.{length, drop, length-take, length-drop}
-use borrow.Author.Tests.{ne-eqb, eqb-true, lt-ltb, ltb-true, ltb-false, le-leb, leb-true, not-false}
+use borrow.Author.Tests.{ne-eqb, eqb-true, ltb-true, le-leb, leb-true, not-false}
 use Rattle.units.specs.Units.{mostShares}
 use Rattle.rules.specs.Words.{all, total, Test, first}
 use Rattle.rules.specs.Bounds.{mostFile}
@@ -29,20 +29,35 @@ use Rattle.laws.specs.Deliveries.{moved-is}
 use Rattle.laws.specs.RunShares.{wanted-is}
 use Rattle.laws.specs.RunKeeps.{wants-size}
 use Rattle.laws.specs.Walk.{wants}
-use Rattle.sheet.specs.Answers.{placeFits, Fits, AllFit, fit-none, fit-more}
+use Rattle.sheet_laws.specs.AnswersFew.{not-long}
 
--- ── an answer fits: its number below 256, its figure below 2^64 ──
+-- ── definitions ──
 
-first-below : (ts : List Test) → all (λ t. ltb (t .1) 256) ts ≡ true → first ts < 256
+pub record Fits (a : Answer) : Type 0 where
+  pub number : a .number < 100
+  pub figure : a .figure < 2 ^ 64
+  pub place : a .number ≡ 19 → a .figure ≤ mostFile
+
+pub data AllFit : List Answer → Type 0 where
+  fit-none : AllFit []
+  fit-more : {a : Answer} {rest : List Answer} → Fits a → AllFit rest → AllFit (a ∷ rest)
+
+fit-both : (l m : List Answer) → AllFit l → AllFit m → AllFit (l ++ m)
+fit-both l m fit-none g = g
+fit-both l m (fit-more {rest = rest} h r) g = fit-more h (fit-both rest m r g)
+
+-- ── the answer of a call ──
+
+first-below : (ts : List Test) → all (λ t. ltb (t .1) 100) ts ≡ true → first ts < 100
 unfolding first
 first-below [] h = omega arith
 first-below (t ∷ ts) h =
-    let b = all-cons (λ (u : Test). ltb (u .1) 256) t ts h in
+    let b = all-cons (λ (u : Test). ltb (u .1) 100) t ts h in
     by-test (t .0)
-    (λ e. omega (arith, cond-yes (t .1) (first ts) e, ltb-true (t .1) 256 (b .0)))
+    (λ e. omega (arith, cond-yes (t .1) (first ts) e, ltb-true (t .1) 100 (b .0)))
     (λ e. omega (arith, cond-no (t .1) (first ts) e, first-below ts (b .1)))
 
-tests-below : (k : Book) (c : Call) → all (λ t. ltb (t .1) 256) ((not (sound k), 1) ∷ tests k c) ≡ true
+tests-below : (k : Book) (c : Call) → all (λ t. ltb (t .1) 100) ((not (sound k), 1) ∷ tests k c) ≡ true
 unfolding all tests fieldTests holdingTests
 tests-below k (enter t) = refl
 tests-below k (amend t) = refl
@@ -52,7 +67,7 @@ tests-below k (deposit a s q) = refl
 tests-below k (withdraw a s q) = refl
 tests-below k (run s) = refl
 
-number-fits : (k : Book) (c : Call) → answer k c < 256
+number-fits : (k : Book) (c : Call) → answer k c < 100
 unfolding answer
 number-fits k c = first-below ((not (sound k), 1) ∷ tests k c) (tests-below k c)
 
@@ -102,65 +117,38 @@ answered-fits k c =
           by-test (eqb (answer k c) 0)
           (λ e. omega (arith, cond-yes (figure k c) 0 e, figure-fits k c (accepted-sound k c (eqb-true (answer k c) 0 e))))
           (λ e. omega (arith, cond-no (figure k c) 0 e));
+      place = λ e. omega (arith, cond-no (figure k c) 0 (ne-eqb (answer k c) 0 (λ z. omega arith)));
     }
 
--- ── the answers of the calls, and the place of a 19 ──
+-- ── the answers of the calls ──
 
-placed-right : (k : Book) (c : Call) → placeFits (answered k c) ≡ true
-unfolding placeFits answered
-placed-right k c =
-    by-test (eqb (answer k c) 19)
-    (λ e. let other = cond-no (figure k c) 0 (ne-eqb (answer k c) 0 (λ z. omega (arith, eqb-true (answer k c) 19 e))) in
-    rw e (lt-ltb (cond (eqb (answer k c) 0) (figure k c) 0) (2 ^ 32) (omega arith)))
-    (λ e. rw e)
-
-pub record Good (l : List Answer) : Type 0 where
-  pub fit : AllFit l
-  pub places : all placeFits l ≡ true
-
-good-none : Good []
-unfolding all
-good-none = record { fit = fit-none; places = refl }
-
-good-more : (a : Answer) (l : List Answer) → Fits a → placeFits a ≡ true → Good l → Good (a ∷ l)
-unfolding all
-good-more a l h p g = record { fit = fit-more h (g .fit); places = and-hold p (g .places) }
-
-good-both : (l m : List Answer) → Good l → Good m → Good (l ++ m)
-unfolding all
-good-both l m g h = go l (g .fit) (g .places)
-  where
-    go : (l : List Answer) → AllFit l → all placeFits l ≡ true → Good (l ++ m)
-    go l fit-none p = h
-    go l (fit-more {a = a} {rest = rest} f r) p = let b = all-cons placeFits a rest p in good-more a (rest ++ m) f (b .0) (go rest r (b .1))
-
-good-played : (k : Book) (cs : List Call) → Good (played k cs .answers)
+fit-played : (k : Book) (cs : List Call) → AllFit (played k cs .answers)
 unfolding played
-good-played k [] = good-none
-good-played k (c ∷ cs) = good-more (answered k c) (played (left k c) cs .answers) (answered-fits k c) (placed-right k c) (good-played (left k c) cs)
+fit-played k [] = fit-none
+fit-played k (c ∷ cs) = fit-more (answered-fits k c) (fit-played (left k c) cs)
 
-created-right : placeFits (record { number = 0; figure = 0 }) ≡ true
-unfolding placeFits
-created-right = refl
+created-fits : Fits (record { number = 0; figure = 0 })
+created-fits = record { number = omega arith; figure = omega arith; place = λ e. omega arith }
 
-good-from : (codes : Option (List ℕ)) (cs : List Call) → Good (playedFrom codes cs .answers)
+fit-from : (codes : Option (List ℕ)) (cs : List Call) → AllFit (playedFrom codes cs .answers)
 unfolding playedFrom
-good-from none cs = good-none
-good-from (some codes) cs =
-    good-more (record { number = 0; figure = 0 }) (played (emptyBook codes) cs .answers)
-    (record { number = omega arith; figure = omega arith }) created-right (good-played (emptyBook codes) cs)
+fit-from none cs = fit-none
+fit-from (some codes) cs = fit-more created-fits (fit-played (emptyBook codes) cs)
 
--- a place is within the file
+-- ── the place of a 19 ──
+
+-- a place is at most so far
 unfoldable within : ℕ → Option ℕ → Bool
 within top none = true
 within top (some place) = leb place top
 
-good-nineteen : (top : ℕ) (place : Option ℕ) → top < 2 ^ 32 → within top place ≡ true → Good (nineteen place)
-unfolding nineteen within placeFits
-good-nineteen top none h e = good-none
-good-nineteen top (some place) h e =
-    let p = leb-true place top e in
-    good-more (record { number = 19; figure = place }) [] (record { number = omega arith; figure = omega arith }) (lt-ltb place (2 ^ 32) (omega arith)) good-none
+fit-nineteen : (place : Option ℕ) → within mostFile place ≡ true → AllFit (nineteen place)
+unfolding nineteen within
+fit-nineteen none e = fit-none
+fit-nineteen (some place) e =
+    let far = leb-true place mostFile e in
+    let fits : Fits (record { number = 19; figure = place }) = record { number = omega arith; figure = omega arith; place = λ is. far } in
+    fit-more fits fit-none
 
 place-before : (top : ℕ) (r : Placed) (says : Record) (rest : Contents) → leb (r .place) top ≡ true → within top (rest .place) ≡ true
     → within top (before r says rest .place) ≡ true
@@ -193,19 +181,17 @@ unfolding behindVersion all
 behind-within top [] h = and-hold (le-leb 1 top (omega arith)) refl
 behind-within top (b ∷ bs) h = records-within top 0 1 (b ∷ bs) (omega arith)
 
-file-within : (top : ℕ) (file : List ℕ) → 1 + length file ≤ top → all (λ r. leb (r .place) top) (recordsIn file) ≡ true
+file-within : (top : ℕ) (file : List ℕ) → 1 ≤ top → length file ≤ top → all (λ r. leb (r .place) top) (recordsIn file) ≡ true
 unfolding recordsIn all
-file-within top file h =
+file-within top file h l =
     all-cond (λ (r : Placed). leb (r .place) top) (otherVersion file) _ (behindVersion (drop 1 file)) (and-hold (le-leb 0 top (omega arith)) refl)
     (behind-within top (drop 1 file) (omega (arith, length-drop 1 file)))
 
-pub not-long : (file : List ℕ) → tooLong file ≡ false → length file ≤ mostFile
-unfolding tooLong
-not-long file e = ltb-false mostFile (length file) e
+-- ── all of them ──
 
-pub file-good : (file : List ℕ) → tooLong file ≡ false → Good (fileOf file .answers)
+pub file-fits : (file : List ℕ) → tooLong file ≡ false → AllFit (fileOf file .answers)
 unfolding fileOf contentsOf
-file-good file e =
+file-fits file e =
     let c = contentsOf file in
-    good-both (playedFrom (c .codes) (c .calls) .answers) (nineteen (c .place)) (good-from (c .codes) (c .calls))
-    (good-nineteen 65536 (c .place) (omega arith) (place-within 65536 (recordsIn file) (file-within 65536 file (omega (arith, not-long file e)))))
+    fit-both (playedFrom (c .codes) (c .calls) .answers) (nineteen (c .place)) (fit-from (c .codes) (c .calls))
+    (fit-nineteen (c .place) (place-within mostFile (recordsIn file) (file-within mostFile file (omega arith) (not-long file e))))

@@ -20,9 +20,13 @@ use Rattle.rules.specs.CallFile.{Placed, Contents, isUnreadable, recordsFrom, b
 use Rattle.rules.specs.declared.Book.{Book}
 use Rattle.laws.specs.Cases.{by-test, true-false, neither, cond-yes, cond-no}
 use Rattle.laws.specs.All.{all-cons}
-use Rattle.sheet.specs.AnswersFit.{not-long}
 
--- ── how many they are ──
+-- a file that is not refused by 18
+pub not-long : (file : List ℕ) → tooLong file ≡ false → length file ≤ mostFile
+unfolding tooLong
+not-long file e = ltb-false mostFile (length file) e
+
+-- ── how many records there are ──
 
 -- a readable record has at least 3 bytes: its length bytes, and what they say
 named : (place : ℕ) (r : Record) → isUnreadable (inPlace place r) ≡ false → isUnreadable r ≡ false

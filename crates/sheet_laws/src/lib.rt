@@ -1,0 +1,1 @@
+// Theorems about the answers of a call file and the length of its sheet: no code.
