@@ -1,0 +1,11 @@
+//! Random and damaged inputs for the calls of the book, and the two outcomes of each: the archive's and the reference's.
+
+pub mod books;
+pub mod calls;
+pub mod case;
+pub mod counts;
+pub mod files;
+pub mod random;
+pub mod show;
+pub mod shrink;
+pub mod tables;
