@@ -81,6 +81,15 @@ pub fn longest(random: &mut Random) -> Vec<u8> {
     file
 }
 
+/// A create and 21,833 rolls: 65,535 bytes, and as many records as a file can hold.
+pub fn rolls() -> Vec<u8> {
+    let mut file = beginning(&[0; 32]);
+    while file.len() + 3 <= 65_535 {
+        file.extend(record(4, &[]));
+    }
+    file
+}
+
 /// A fill of the position table to its brim: rolls after days of 256 trades between pairs that do not meet again.
 pub fn brim(random: &mut Random) -> Vec<u8> {
     let mut file = beginning(&[random.below(4) as u8; 32]);

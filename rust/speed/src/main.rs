@@ -9,7 +9,7 @@ mod clock;
 mod table;
 
 use compare::calls::Style;
-use compare::files::readable_of;
+use compare::files::{readable_of, rolls};
 use compare::random::Random;
 use reference::book::Trade;
 use reference::calls;
@@ -47,7 +47,11 @@ fn main() {
 fn sheets(table: &mut Table) {
     let heavy = std::fs::read(concat!(env!("CARGO_MANIFEST_DIR"), "/../../tests/vectors/heavy.bin"));
     let mixed = readable_of(Style::everyday(), &mut Random::new(7), 65_535);
-    for (name, file) in [("heavy, mostly rolls", heavy.unwrap_or_default()), ("mixed calls", mixed)] {
+    for (name, file) in [
+        ("21,833 rolls", rolls()),
+        ("heavy, mostly rolls refused", heavy.unwrap_or_default()),
+        ("mixed calls", mixed),
+    ] {
         let name = format!("sheet of a file, {name} ({} bytes)", file.len());
         let room = Room::new(vec![0; wickdamson::BOOK_BYTES], wickdamson::SHEET_BYTES);
         table.row(
