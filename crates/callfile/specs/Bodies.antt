@@ -8,29 +8,14 @@ use lib.Dec.{lit≤}
 use lib.ListN.{length, getD, take, drop, length-take, length-drop}
 use lib.Seq.{getD-take, getD-drop, drop-drop}
 use Rattle.fields.specs.Field.{field}
+use Rattle.fields.specs.FieldLaws.{field-from, field-in}
 use Rattle.rules.specs.Words.{all}
 use Rattle.rules.specs.Sound.{isCode}
 use Rattle.rules.specs.Records.{tradeIn}
 use Rattle.rules.specs.declared.Trade.{Trade}
 use Rattle.laws.specs.Walks.{all-none, all-more, all-fails, all-done}
 
--- ── fields of a part ──
-
--- a field of what stands from a place on, and of a part of it, is the file's own field there
-pub field-from : (w at place : ℕ) (bs : List ℕ) → field w at (drop place bs) ≡ field w (place + at) bs
-unfolding field
-field-from zero at place bs = refl
-field-from (suc w) at place bs =
-    let e : getD (drop place bs) (at + w) 0 ≡ getD bs (place + at + w) 0 = getD-drop place bs (at + w) 0 ∙ ap (λ (i : ℕ). getD bs i 0) (omega arith) in
-    rw (field-from w at place bs, e)
-
-pub field-in : (w at n place : ℕ) (bs : List ℕ) → at + w ≤ n → field w at (take n (drop place bs)) ≡ field w (place + at) bs
-unfolding field
-field-in zero at n place bs h = refl
-field-in (suc w) at n place bs h =
-    let e : getD (take n (drop place bs)) (at + w) 0 ≡ getD bs (place + at + w) 0
-    = getD-take n (drop place bs) (at + w) 0 (omega arith) ∙ getD-drop place bs (at + w) 0 ∙ ap (λ (i : ℕ). getD bs i 0) (omega arith) in
-    rw (field-in w at n place bs (omega arith), e)
+-- ── the body ──
 
 -- the body of a record at a place: what follows its length; and the codes of a create there
 abbrev pub bodyAt : ℕ → ℕ → List ℕ → List ℕ

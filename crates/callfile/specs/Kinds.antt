@@ -1,6 +1,6 @@
 -- The kind of the record at a place of a call file: what its kind byte and its length say, and where nothing can be read.
-use mathlib.Core.Path.{_≡_, refl, sym, ap, subst, _∙_}
-use mathlib.Core.Bool.{Bool, true, false, _&&_, _||_}
+use mathlib.Core.Path.{_≡_, sym, ap, subst, _∙_}
+use mathlib.Core.Bool.{true, false, _&&_}
 use mathlib.Core.List.{List, [], _∷_}
 use Prim.Native.Nat.{ℕ, _+_, _≤_, _<_}
 use native.Mathlib.Omega.{arith}
@@ -9,10 +9,11 @@ use lib.Dec.{eqb, ltb, lit<}
 use lib.ListN.{length, getD, take, drop, length-take, length-drop, List·getD-eq-default}
 use borrow.Author.Tests.{lt-ltb, le-ltb, ltb-false, eqb-true, ne-eqb}
 use Rattle.fields.specs.Field.{field}
+use Rattle.fields.specs.FieldLaws.{field-from}
 use Rattle.fields.specs.Codec.{field-at}
 use Rattle.rules.specs.Records.{Record, unreadable, lengthOf, formsOf, readAs, isCut, frontOf}
-use Rattle.laws.specs.Cases.{by-test, neither, cond-yes, cond-no}
-use Rattle.callfile.specs.Bodies.{bodyAt, field-from}
+use Rattle.laws.specs.Cases.{by-test, neither, cond-yes, cond-no, or-right}
+use Rattle.callfile.specs.Bodies.{bodyAt}
 
 -- ── kinds ──
 
@@ -44,10 +45,6 @@ pub record Found (bs : List ℕ) (kind : ℕ) : Type 0 where
   pub some : kind < 8 → Stands bs kind
 
 -- ── nothing that can be read ──
-
-or-right : (a : Bool) {b : Bool} → b ≡ true → a || b ≡ true
-or-right true e = refl
-or-right false e = e
 
 nothing : (bs : List ℕ) → frontOf bs ≡ unreadable → Found bs 8
 nothing bs e = record { most = omega arith; none = λ f. e; some = λ h. absurd (omega arith) }

@@ -34,11 +34,8 @@ pub capped-past : (n : ℕ) → limit < n → capped n ≡ Past
 unfolding capped
 capped-past n h = rw (lt-leb n limit h)
 
--- a quotient, by its remainder
+-- a quotient rounded up, by its remainder
 module _ (n d : ℕ) (p : 0 < d) where
-  quotient-is : (q r : ℕ) → r < d → q * d + r ≡ n → n / d ≡ q
-  quotient-is q r h e = ap (λ (x : ℕ). x / d) (sym e) ∙ digits-div q h
-
   pub up-exact : n % d ≡ 0 → roundUp n d ≡ n / d
   up-exact h = ap (λ (x : ℕ). x / d) eq ∙ digits-div (n / d) {m = d} {r = d - 1} (omega arith)
     where

@@ -7,10 +7,9 @@ use Prim.Native.Nat.{ℕ, suc}
 use native.Mathlib.Nat.{ℕ-set}
 use lib.Dec.{eqb}
 use lib.ListN.{length}
-use borrow.Author.Tests.{eqb-true, eqb-false, eq-eqb, ne-eqb}
 use Rattle.rules.specs.Words.{all}
 use Rattle.rules.specs.Sound.{distinct}
-use Rattle.laws.specs.Cases.{by-test}
+use Rattle.laws.specs.Cases.{eqb-swap, and-mix}
 
 -- ── its length ──
 
@@ -42,22 +41,12 @@ all-order t l m p = ∥∥₁-elim p (Bool-set (all t l) (all t m)) (λ q. all-o
 
 -- ── distinct numbers ──
 
-either-way : (m n : ℕ) → eqb m n ≡ eqb n m
-either-way m n =
-    by-test (eqb m n)
-    (λ y. y ∙ sym (eq-eqb n m (sym (eqb-true m n y))))
-    (λ y. y ∙ sym (ne-eqb n m (λ z. eqb-false m n y (sym z))))
-
-pairs-swap : (x p q d : Bool) → (x && p) && (q && d) ≡ (x && q) && (p && d)
-pairs-swap true p q d = and-swap p q d
-pairs-swap false p q d = refl
-
 distinct-orderᴰ : {l m : List ℕ} → List·Permᴰ l m → distinct l ≡ distinct m
 unfolding distinct all
 distinct-orderᴰ List·Permᴰ·nil = refl
 distinct-orderᴰ (List·Permᴰ·cons {a = a} e q) = rw (sym e) (ap₂ _&&_ (all-orderᴰ (λ m. not (eqb a m)) q) (distinct-orderᴰ q))
 distinct-orderᴰ (List·Permᴰ·swap {a = a} {b = b} {l = l} e f) =
-    rw (sym e, sym f, either-way b a) (pairs-swap (not (eqb a b)) (all (λ m. not (eqb a m)) l) (all (λ m. not (eqb b m)) l) (distinct l))
+    rw (sym e, sym f, eqb-swap b a) (and-mix (not (eqb a b)) (all (λ m. not (eqb a m)) l) (all (λ m. not (eqb b m)) l) (distinct l))
 distinct-orderᴰ (List·Permᴰ·trans q r) = distinct-orderᴰ q ∙ distinct-orderᴰ r
 
 pub distinct-order : (l m : List ℕ) → Perm l m → distinct l ≡ distinct m

@@ -15,7 +15,7 @@ use Rattle.rules.specs.Words.{all}
 use Rattle.rules.specs.Bounds.{accounts, securities, currencies, lastDay, mostRecords, mostTrades, mostHeld, mostAtStake}
 use Rattle.rules.specs.Book.{quantityOf, moneyOf, isZero, dueOf, openOf, chargeAt, emptyBook, withOpen, withList, withHoldings, withCharges, withDay}
 use Rattle.rules.specs.Layout.{Fits, amount, position, trade, book}
-use Rattle.rules.specs.Sound.{dayFits, codesFit, ascends, isBlank, recordsFit, isPosition, sizesFit, dueFits, totalsHeld, holdingsFit}
+use Rattle.rules.specs.Sound.{codesFit, ascends, isBlank, recordsFit, isPosition, sizesFit, dueFits, totalsHeld, holdingsFit}
 use Rattle.rules.specs.Roll.{uncharged, netted, emptied, nextDay, offset, rolled}
 use Rattle.rules.specs.Run.{settled}
 use Rattle.rules.specs.Calls.{Call, enter, amend, exclude, roll, deposit, withdraw, run, after, answerSound}
@@ -27,7 +27,8 @@ use Rattle.laws.specs.All.{all-and}
 use Rattle.laws.specs.Numbers.{due-before}
 use Rattle.laws.specs.Charging.{chargeIn}
 use Rattle.laws.specs.Stakes.{stake-within}
-use Rattle.laws.specs.SoundParts.{sound-parts}
+use Rattle.laws.specs.SoundParts.{sound-parts, day-small}
+use Rattle.laws.specs.Blanks.{records-few}
 use Rattle.laws.specs.Fitting.{Each, so-many, each-both, CallFits, enter-fits, amend-fits, exclude-fits, deposit-fits, withdraw-fits, empty-fits}
 use Rattle.history.specs.Histories.{accepted}
 use Rattle.history.specs.Steps.{Good, left-yes, left-no, took, after-good}
@@ -85,15 +86,11 @@ blank-fits p e =
     )
 
 module _ (k : Book) (g : Good k) where
-  day-small : k .day ≤ lastDay
-  unfolding dayFits
-  day-small = leb-true (k .day) lastDay (sound-parts k (g .sound) .day)
-
-  records-parts : (k .records ≤ mostRecords) × (all isBlank (drop (k .records) (k .positions)) ≡ true)
+  room-blank : all isBlank (drop (k .records) (k .positions)) ≡ true
   unfolding recordsFit
-  records-parts =
+  room-blank =
       let x = both-hold (leb (k .records) mostRecords) _ (sound-parts k (g .sound) .records) in
-      (leb-true (k .records) mostRecords (x .0), both-hold (ascends (openOf k)) (all isBlank (drop (k .records) (k .positions))) (x .1) .1)
+      both-hold (ascends (openOf k)) (all isBlank (drop (k .records) (k .positions))) (x .1) .1
 
   positions-fit : All position mostRecords (k .positions)
   unfolding openOf
@@ -101,8 +98,8 @@ module _ (k : Book) (g : Good k) where
       let c = sound-parts k (g .sound) in
       let rest = drop (k .records) (k .positions) in
       let used = each-by position (λ p. sizesFit p && dueFits (k .day) p) (openOf k) (all-and sizesFit (dueFits (k .day)) (openOf k) (c .sizes) (c .due-days))
-      (λ p e. position-fits (k .day) p day-small e) in
-      let spare = each-by position isBlank rest (records-parts .1) blank-fits in
+      (λ p e. position-fits (k .day) p (day-small k (g .sound)) e) in
+      let spare = each-by position isBlank rest room-blank blank-fits in
       so-many position mostRecords (k .positions) (g .shaped .positions)
       (subst (Each position) (take-append-drop (k .records) (k .positions)) (each-both position (openOf k) rest used spare))
 
@@ -131,7 +128,8 @@ module _ (k : Book) (g : Good k) where
 
   sound-fits : All trade mostTrades (k .trades) → book .Ok k
   sound-fits t =
-      (omega (arith, day-small), (codes-fit, (omega (arith, records-parts .0), (positions-fit, (holdings-fit, (charges-fit, (omega (arith, few k g), t)))))))
+      let records = records-few k (sound-parts k (g .sound) .records) in
+      (omega (arith, day-small k (g .sound)), (codes-fit, (omega (arith, records), (positions-fit, (holdings-fit, (charges-fit, (omega (arith, few k g), t)))))))
 
 -- ── the calls ──
 

@@ -21,7 +21,7 @@ use Rattle.rules.specs.declared.Book.{Book}
 use Rattle.rules.specs.CallFile.{contentsOf, fileOf}
 use Rattle.laws.specs.Shaped.{Shaped, fits-shaped}
 use Rattle.laws.specs.Accepted.{may-create}
-use Rattle.laws.specs.ReadBack.{stored-empty, created-fits}
+use Rattle.laws.specs.Fitting.{stored-empty, created-fits}
 use Rattle.laws.specs.Backed.{unmet, meeting-backed}
 use Rattle.history.specs.Histories.{accepted, made, logOf, rolls, others, survivors, tidy, Interleaved, lastForm, find, past, today, morning, EndsRolled, SameRoll}
 use Rattle.history.specs.Amounts.{openShares, moneyOpen, everCharged, deposited, withdrawn}

@@ -1,7 +1,7 @@
 -- Linear facts over ℤ as facts over ℕ: the ground of `Linear`, where the everyday form is.
 -- An integer x has two sides, `up x` and `dn x`: x is up x − dn x, and one of them is 0.
 -- A `Lin` is an integer that is known to be a difference p − n of two naturals.
---     lin e f (omega arith)     proves `e .z ≡ f .z`, where e and f are written with `v x`, `nat k`, `⊕`, `⊝`, `neg`, `⊛ k`; `lin≤`, `lin<` an order; `abs-le e k`, `abs-lt e k` a bound on a size
+--     lin e f (omega arith)     proves `e .z ≡ f .z`, where e and f are written with `v x`, `nat k`, `⊕`, `⊝`, `neg`, `⊛ k`; `lin≤`, `lin<` an order; `abs-le e k` a bound on a size
 --     fact e f h                such an equation h, for omega's list; `fact≤`, `fact<`
 --     zarith                    rules for omega's list, by which it reads and proves flat facts: `r ≡ a +ℤ b`, `r ≡ a -ℤ b`, `r ≡ negℤ a`, `a ≡ b`, `a ≤ℤ b`, `a <ℤ b`
 --     sides x, one-side x       natAbs x ≡ up x + dn x; min (up x) (dn x) ≡ 0
@@ -29,7 +29,7 @@ pos-inj e = ap natAbs e
 pub +ℤ-cancel : {a b : ℤ} (c : ℤ) → a +ℤ c ≡ b +ℤ c → a ≡ b
 +ℤ-cancel {a} {b} c e = sym (+ℤ-negℤ-cancel a c) ∙ ap (λ (x : ℤ). x +ℤ negℤ c) e ∙ +ℤ-negℤ-cancel b c
 
-pub +ℤ-swap : (a b c d : ℤ) → (a +ℤ b) +ℤ (c +ℤ d) ≡ (a +ℤ c) +ℤ (b +ℤ d)
++ℤ-swap : (a b c d : ℤ) → (a +ℤ b) +ℤ (c +ℤ d) ≡ (a +ℤ c) +ℤ (b +ℤ d)
 +ℤ-swap a b c d =
     +ℤ-assoc a b (c +ℤ d)
     ∙ ap (λ (x : ℤ). a +ℤ x) (sym (+ℤ-assoc b c d) ∙ ap (λ (x : ℤ). x +ℤ d) (+ℤ-comm b c) ∙ +ℤ-assoc c b d)
@@ -97,9 +97,6 @@ one-side (negsuc n) = omega arith
 -- to prove a bound on a size
 pub abs-le : (e : Lin) (k : ℕ) → e .p ≤ e .n + k → e .n ≤ e .p + k → natAbs (e .z) ≤ k
 abs-le e k h j = omega (arith, sides (e .z), one-side (e .z), fact e (v (e .z)) refl)
-
-pub abs-lt : (e : Lin) (k : ℕ) → e .p < e .n + k → e .n < e .p + k → natAbs (e .z) < k
-abs-lt e k h j = omega (arith, sides (e .z), one-side (e .z), fact e (v (e .z)) refl)
 
 -- the size itself
 pub abs-is : (e : Lin) → natAbs (e .z) ≡ (e .p - e .n) + (e .n - e .p)

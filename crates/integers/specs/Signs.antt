@@ -1,7 +1,7 @@
 -- Signs: an integer is its sign and its size; what a test of the sign tells; toward zero by k units.
 use mathlib.Core.Path.{_≡_, refl, ap, _∙_, subst}
 use mathlib.Core.Bool.{Bool, true, false, not}
-use Prim.Native.Nat.{ℕ, zero, suc, _+_, _-_, _≤_, _<_}
+use Prim.Native.Nat.{ℕ, zero, suc, _-_, _≤_, _<_}
 use native.Mathlib.Omega.{arith}
 use lib.Dec.{T}
 use lib.IntN.{ℤ, pos, negsuc, negℤ, natAbs, _+ℤ_, _-ℤ_}
@@ -23,15 +23,6 @@ pub neg-no : (x : ℤ) → isNegative x ≡ false → dn x ≤ up x
 neg-no (pos n) e = omega arith
 neg-no (negsuc n) e = absurd (subst T e tt)
 
--- and the other way
-pub yes-neg : (x : ℤ) → up x < dn x → isNegative x ≡ true
-yes-neg (pos n) h = absurd (omega arith)
-yes-neg (negsuc n) h = refl
-
-pub no-neg : (x : ℤ) → dn x ≤ up x → isNegative x ≡ false
-no-neg (pos n) h = refl
-no-neg (negsuc n) h = absurd (omega arith)
-
 -- the integer with a sign and a size
 abbrev pub signed : Bool → ℕ → ℤ
 signed true n = negℤ (pos n)
@@ -52,10 +43,6 @@ signed-zero false = refl
 pub signed-diff : (b : Bool) (n k : ℕ) → k ≤ n → signed b (n - k) ≡ signed b n -ℤ signed b k
 signed-diff true n k h = simp zlin (omega arith)
 signed-diff false n k h = simp zlin (omega arith)
-
-pub signed-sum : (b : Bool) (n k : ℕ) → signed b (n + k) ≡ signed b n +ℤ signed b k
-signed-sum true n k = simp zlin (omega arith)
-signed-sum false n k = refl
 
 pub signed-not : (b : Bool) (n : ℕ) → signed (not b) n ≡ negℤ (signed b n)
 signed-not true n = simp zlin (omega arith)

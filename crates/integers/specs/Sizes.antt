@@ -1,9 +1,9 @@
 -- Sizes of integers: `natAbs` of a sum, a difference, a product.
 use mathlib.Core.Path.{_≡_, refl}
-use Prim.Native.Nat.{ℕ, suc, _+_, _*_, _≤_}
+use Prim.Native.Nat.{suc, _+_, _*_, _≤_}
 use native.Mathlib.Omega.{arith}
 use lib.IntN.{ℤ, pos, negsuc, negℤ, natAbs, _+ℤ_, _-ℤ_, _*ℤ_}
-use Rattle.integers.specs.Sides.{v, nat, neg, _⊕_, _⊝_, _⊛_, lin, sides, abs-le, abs-is}
+use Rattle.integers.specs.Sides.{v, nat, neg, _⊕_, _⊝_, lin, sides, abs-le, abs-is}
 
 pub natAbs-neg : (x : ℤ) → natAbs (negℤ x) ≡ natAbs x
 natAbs-neg x = omega (arith, abs-is (neg (v x)), abs-is (v x))
@@ -22,6 +22,3 @@ natAbs-mul (pos a) (pos b) = refl
 natAbs-mul (pos a) (negsuc b) = natAbs-neg (pos (a * suc b))
 natAbs-mul (negsuc a) (pos b) = natAbs-neg (pos (suc a * b))
 natAbs-mul (negsuc a) (negsuc b) = refl
-
-pub mul-sum : (x y : ℤ) (k : ℕ) → (x +ℤ y) *ℤ pos k ≡ x *ℤ pos k +ℤ y *ℤ pos k
-mul-sum x y k = lin ((v x ⊕ v y) ⊛ k) (v x ⊛ k ⊕ v y ⊛ k) (omega arith)

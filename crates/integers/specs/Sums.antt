@@ -4,13 +4,12 @@ use mathlib.Core.List.{List, [], _∷_, _++_, map, List·Permᴰ, Perm, List·Pe
 use mathlib.Core.Logic.{∥∥₁-elim, _≢_}
 use lib.Seq.{getD-set-other}
 use Rattle.integers.specs.Linear.{zlin}
-use Prim.Native.Nat.{ℕ, zero, suc, _+_, _*_, _≤_, _<_, zero-le, suc-le-suc}
+use Prim.Native.Nat.{ℕ, zero, suc, _+_, _<_}
 use native.Mathlib.Nat.{le-of-suc-le-suc}
 use native.Mathlib.Numerals.{add-one}
 use native.Mathlib.Omega.{arith}
-use lib.ListN.{length, getD, take, set, replicate, length-set}
-use lib.IntN.{ℤ, pos, negℤ, natAbs, _+ℤ_, _-ℤ_, ℤ-set}
-use Rattle.integers.specs.Sizes.{natAbs-sum}
+use lib.ListN.{length, getD, take, set, length-set}
+use lib.IntN.{ℤ, pos, _+ℤ_, _-ℤ_, ℤ-set}
 
 module _ {A : Type 0} where
   abbrev pub sumBy : (A → ℤ) → List A → ℤ
@@ -20,9 +19,6 @@ module _ {A : Type 0} where
   pub sumBy-append : (f : A → ℤ) (l m : List A) → sumBy f (l ++ m) ≡ sumBy f l +ℤ sumBy f m
   sumBy-append f [] m = simp zlin (omega arith)
   sumBy-append f (x ∷ l) m = simp zlin (omega (arith, simp zlin at (sumBy-append f l m)))
-
-  pub sumBy-one : (f : A → ℤ) (x : A) → sumBy f (x ∷ []) ≡ f x
-  sumBy-one f x = simp zlin (omega arith)
 
   pub sumBy-set : (f : A → ℤ) (l : List A) (i : ℕ) (a d : A) → i < length l → sumBy f (set l i a) ≡ (sumBy f l -ℤ f (getD l i d)) +ℤ f a
   sumBy-set f [] i a d h = absurd (omega arith)
@@ -38,39 +34,9 @@ module _ {A : Type 0} where
       go (x ∷ l) zero h = simp zlin (omega arith)
       go (x ∷ l) (suc i) h = simp zlin (omega (arith, simp zlin at (go l i (le-of-suc-le-suc h))))
 
-  pub sumBy-neg : (f : A → ℤ) (l : List A) → sumBy (λ x. negℤ (f x)) l ≡ negℤ (sumBy f l)
-  sumBy-neg f [] = refl
-  sumBy-neg f (x ∷ l) = simp zlin (omega (arith, simp zlin at (sumBy-neg f l)))
-
   pub sumBy-sum : (f g : A → ℤ) (l : List A) → sumBy (λ x. f x +ℤ g x) l ≡ sumBy f l +ℤ sumBy g l
   sumBy-sum f g [] = refl
   sumBy-sum f g (x ∷ l) = simp zlin (omega (arith, simp zlin at (sumBy-sum f g l)))
-
-  -- two sums whose elements agree, by index
-  pub sumBy-same : (f g : A → ℤ) (l : List A) (d : A) → ((i : ℕ) → i < length l → f (getD l i d) ≡ g (getD l i d)) → sumBy f l ≡ sumBy g l
-  sumBy-same f g [] d h = refl
-  sumBy-same f g (x ∷ l) d h =
-      let a : f x ≡ g x = h zero (suc-le-suc zero-le) in
-      let b : sumBy f l ≡ sumBy g l = sumBy-same f g l d (λ i k. h (suc i) (suc-le-suc k)) in
-      rw (a, b)
-
-  pub sumBy-zero : (f : A → ℤ) (l : List A) (d : A) → ((i : ℕ) → i < length l → f (getD l i d) ≡ pos 0) → sumBy f l ≡ pos 0
-  sumBy-zero f [] d h = refl
-  sumBy-zero f (x ∷ l) d h =
-      let a : f x ≡ pos 0 = h zero (suc-le-suc zero-le) in
-      let b : sumBy f l ≡ pos 0 = sumBy-zero f l d (λ i k. h (suc i) (suc-le-suc k)) in
-      rw (a, b)
-
-  pub sumBy-replicate : (f : A → ℤ) (n : ℕ) (a : A) → f a ≡ pos 0 → sumBy f (replicate n a) ≡ pos 0
-  sumBy-replicate f zero a h = refl
-  sumBy-replicate f (suc n) a h = rw (h, sumBy-replicate f n a h)
-
-  pub sumBy-abs : (f : A → ℤ) (l : List A) (d : A) (b : ℕ) → ((i : ℕ) → i < length l → natAbs (f (getD l i d)) ≤ b) → natAbs (sumBy f l) ≤ length l * b
-  sumBy-abs f [] d b h = zero-le
-  sumBy-abs f (x ∷ l) d b h =
-      let a : natAbs (f x) ≤ b = h zero (suc-le-suc zero-le) in
-      let c : natAbs (sumBy f l) ≤ length l * b = sumBy-abs f l d b (λ i k. h (suc i) (suc-le-suc k)) in
-      omega (arith, natAbs-sum (f x) (sumBy f l))
 
 pub sumBy-map : {A B : Type 0} (f : B → ℤ) (g : A → B) (l : List A) → sumBy f (map g l) ≡ sumBy (λ x. f (g x)) l
 sumBy-map f g [] = refl

@@ -7,16 +7,17 @@ use lib.Dec.{eqb, ltb}
 use borrow.Author.Tests.{eqb-true, ltb-true}
 use Rattle.rules.specs.Words.{all, keep, each}
 use Rattle.rules.specs.Bounds.{accounts, securities, everyAccount, everySecurity}
-use Rattle.rules.specs.Book.{isZero, accountOf}
+use Rattle.rules.specs.Book.{accountOf}
 use Rattle.rules.specs.Sound.{isPosition, recordsOf}
-use Rattle.rules.specs.Nets.{net, netOf, tradesOf, nets}
+use Rattle.rules.specs.Nets.{netOf, tradesOf, nets}
 use Rattle.rules.specs.declared.Position.{Position}
 use Rattle.rules.specs.declared.Trade.{Trade}
 use Rattle.laws.specs.Cases.{by-test, both-hold}
 use Rattle.laws.specs.All.{map-all-in, accounts-below, securities-below}
-use Rattle.laws.specs.Keeping.{keep-none, keep-all, keep-whole, keep-nothing, each-keep}
+use Rattle.laws.specs.Keeping.{keep-none, keep-all, keep-nothing, each-keep}
 use Rattle.laws.specs.Numbers.{number-account}
-use Rattle.laws.specs.NetList.{net-number, nets-all, nets-positions}
+use Rattle.laws.specs.NetList.{net-number}
+use Rattle.laws.specs.QuietRoll.{no-nets}
 use Rattle.history.specs.Histories.{survivors}
 use Rattle.history.specs.Survivors.{nets-survivors}
 use Rattle.isolation.specs.Touching.{tradesStanding}
@@ -67,23 +68,14 @@ module _ (a : ℕ) where
 
 -- ── no trades, no nets ──
 
-zero-net : (due x s : ℕ) → isPosition (netOf due (tradesOf x []) x s) ≡ false
-unfolding isPosition netOf net tradesOf keep isZero
-zero-net due x s = refl
-
-nets-nothing : (due : ℕ) → nets due [] ≡ []
-nets-nothing due =
-    sym (keep-whole isPosition (nets due []) (nets-positions due []))
-    ∙ keep-nothing isPosition (nets due []) (nets-all due [] (λ p. not (isPosition p)) (λ x s h l. ap not (zero-net due x s)))
-
 none-standing : (a : ℕ) → tradesStanding a [] ≡ []
 unfolding tradesStanding survivors tradesOf keep
 none-standing a = refl
 
 -- an account without standing trades gets no net
-pub no-nets : (a due : ℕ) (ts : List Trade) → tradesStanding a ts ≡ [] → recordsOf a (nets due ts) ≡ []
+pub no-own-nets : (a due : ℕ) (ts : List Trade) → tradesStanding a ts ≡ [] → recordsOf a (nets due ts) ≡ []
 unfolding recordsOf
-no-nets a due ts e =
+no-own-nets a due ts e =
     standing-nets a due ts [] (e ∙ sym (none-standing a))
-    ∙ ap (keep (isOf a)) (nets-nothing due)
+    ∙ ap (keep (isOf a)) (no-nets due)
     ∙ keep-none (isOf a)

@@ -28,7 +28,7 @@ use Rattle.isolation.specs.Touching.{hasTraded, hasFallingDue}
 use Rattle.isolation.specs.Untouched.{accepted-sound, left-records}
 use Rattle.isolation.specs.TradesApart.{none-pass, no-trades}
 use Rattle.isolation.specs.OffsetApart.{isOf}
-use Rattle.isolation.specs.NetsApart.{no-nets}
+use Rattle.isolation.specs.NetsApart.{no-own-nets}
 use Rattle.isolation.specs.RollApart.{metAlone, leftAlone, rolled-alone, rolling-own}
 
 -- ── offsetting, where nothing is newly due ──
@@ -67,7 +67,7 @@ module _ (k : Book) (a : ℕ) (traded : hasTraded k a ≡ false) (falling : hasF
   unfolding recordsOf
   same-own =
       rolling-own a k
-      ∙ ap (λ (l : List Position). markedOf k a ++ l) (no-nets a (k .day + 2) (listOf k) (no-trades k a traded))
+      ∙ ap (λ (l : List Position). markedOf k a ++ l) (no-own-nets a (k .day + 2) (listOf k) (no-trades k a traded))
       ∙ append-nil (markedOf k a)
 
   marked-left : sound k ≡ true → leftAlone (k .day + 1) (markedOf k a) ≡ markedOf k a

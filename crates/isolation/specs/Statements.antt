@@ -19,14 +19,13 @@ use Rattle.rules.specs.declared.Trade.{Trade}
 use Rattle.rules.specs.declared.Book.{Book}
 use Rattle.laws.specs.Cases.{by-test, neither}
 use Rattle.laws.specs.Keeping.{keep-swap}
-use Rattle.laws.specs.ReadBack.{Plain}
 use Rattle.laws.specs.Fitting.{CallFits}
 use Rattle.history.specs.Histories.{made, rolls, survivors}
 use Rattle.history.specs.Lent.{madeBytes, AllFit}
 use Rattle.history.specs.Steps.{left-currency, made-currency}
 use Rattle.marking.specs.Isolation.{isolation}
 use Rattle.isolation.specs.Touching.{isParty, tradesStanding, hasTraded, hasFallingDue, touches, touched, concerns, concerned}
-use Rattle.isolation.specs.Untouched.{untouched-records}
+use Rattle.isolation.specs.Untouched.{Plain, untouched-records}
 use Rattle.isolation.specs.TradesApart.{left-trades}
 use Rattle.isolation.specs.SameDay.{made-day}
 use Rattle.isolation.specs.RunApart.{run-records}

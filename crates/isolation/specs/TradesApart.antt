@@ -1,17 +1,13 @@
 -- Today's list, account by account: a call that concerns no trade of an account leaves its standing trades as they are.
 use mathlib.Core.Path.{_≡_, refl, sym, ap, _∙_}
-use mathlib.Core.Bool.{Bool, true, false, not, _&&_}
+use mathlib.Core.Bool.{Bool, true, false, not, _&&_, and-false}
 use mathlib.Core.List.{List, [], _∷_, _++_, append-nil}
-use Prim.Native.Nat.{ℕ, _-_}
+use Prim.Native.Nat.{ℕ}
 use lib.Dec.{eqb}
-use lib.ListN.{length, replicate}
-use lib.Seq.{take-append-seam}
 use Rattle.rules.specs.Words.{all, any, keep}
-use Rattle.rules.specs.Bounds.{mostTrades}
-use Rattle.rules.specs.Book.{noTrade, listOf, withOpen, withList, withHoldings, withCharges, withDay}
+use Rattle.rules.specs.Book.{listOf, withOpen, withHoldings, withCharges}
 use Rattle.rules.specs.Trades.{isExcluded, entered, replaced, amended, excludedTrade, excluded}
 use Rattle.rules.specs.Nets.{tradesOf}
-use Rattle.rules.specs.Roll.{uncharged, netted, emptied, nextDay, offset, rolled}
 use Rattle.rules.specs.Run.{settled}
 use Rattle.rules.specs.Calls.{Call, enter, amend, exclude, roll, deposit, withdraw, run, after}
 use Rattle.rules.specs.CallFile.{left}
@@ -21,6 +17,8 @@ use Rattle.laws.specs.Cases.{by-test, and-hold, neither}
 use Rattle.laws.specs.Keeping.{keep-none, keep-yes, keep-no, keep-append, keep-nothing, keep-both}
 use Rattle.history.specs.Histories.{accepted, survivors}
 use Rattle.history.specs.Steps.{left-yes, left-no}
+use Rattle.history.specs.Rest.{listed}
+use Rattle.history.specs.Forms.{rolled-list}
 use Rattle.isolation.specs.Touching.{isParty, standsFor, tradesStanding, hasTraded, hasTrade, concerns}
 
 -- where none passes, each fails
@@ -42,11 +40,7 @@ module _ (a : ℕ) where
   standing-is ts = keep-both (isParty a) (λ t. not (isExcluded t)) ts
 
   not-party : (t : Trade) → isParty a t ≡ false → standsFor a t ≡ false
-  not-party t e = rw e (and-none (not (isExcluded t)))
-    where
-      and-none : (b : Bool) → b && false ≡ false
-      and-none true = refl
-      and-none false = refl
+  not-party t e = rw e (and-false (not (isExcluded t)))
 
   entered-apart : (ts : List Trade) (t : Trade) → standsFor a t ≡ false → keep (standsFor a) (entered ts t) ≡ keep (standsFor a) ts
   unfolding entered
@@ -77,17 +71,9 @@ excluded-none n a = refl
 
 -- ── the calls ──
 
-new-list : (k : Book) (ts : List Trade) → listOf (withList k ts) ≡ ts
-unfolding listOf withList
-new-list k ts = take-append-seam ts (replicate (mostTrades - length ts) noTrade)
-
 deposited-list : (k : Book) (hs : List ℕ) → listOf (withHoldings k hs) ≡ listOf k
 unfolding listOf withHoldings
 deposited-list k hs = refl
-
-rolled-list : (k : Book) → listOf (rolled k) ≡ []
-unfolding listOf rolled offset nextDay emptied netted uncharged withDay withList withOpen withCharges
-rolled-list k = refl
 
 settled-list : (k : Book) (s : ℕ) → listOf (settled k s) ≡ listOf k
 unfolding listOf settled withOpen withHoldings withCharges
@@ -104,12 +90,12 @@ module _ (k : Book) (a : ℕ) where
 
   after-trades : (c : Call) → concerns k c a ≡ false → tradesStanding a (listOf (after k c)) ≡ tradesStanding a (listOf k)
   unfolding after concerns amended excluded hasTrade
-  after-trades (enter t) e = by-list (after k (enter t)) _ (new-list k _) (entered-apart a (listOf k) t (not-party a t e))
+  after-trades (enter t) e = by-list (after k (enter t)) _ (listed k _) (entered-apart a (listOf k) t (not-party a t e))
   after-trades (amend t) e =
       let w = neither (isParty a t) (hasTrade k (t .number) a) e in
-      by-list (after k (amend t)) _ (new-list k _) (replaced-apart a (listOf k) (t .number) t (not-party a t (w .0)) (w .1))
+      by-list (after k (amend t)) _ (listed k _) (replaced-apart a (listOf k) (t .number) t (not-party a t (w .0)) (w .1))
   after-trades (exclude n) e =
-      by-list (after k (exclude n)) _ (new-list k _) (replaced-apart a (listOf k) n (excludedTrade n) (excluded-none n a) e)
+      by-list (after k (exclude n)) _ (listed k _) (replaced-apart a (listOf k) n (excludedTrade n) (excluded-none n a) e)
   after-trades roll e = by-list (after k roll) [] (rolled-list k) (none-left e)
   after-trades (deposit b s q) e = ap (tradesStanding a) (deposited-list k _)
   after-trades (withdraw b s q) e = ap (tradesStanding a) (deposited-list k _)

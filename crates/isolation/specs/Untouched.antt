@@ -14,9 +14,19 @@ use Rattle.rules.specs.declared.Trade.{Trade}
 use Rattle.rules.specs.declared.Book.{Book}
 use Rattle.laws.specs.Cases.{by-test}
 use Rattle.laws.specs.Accepted.{passed}
-use Rattle.laws.specs.ReadBack.{Plain}
 use Rattle.history.specs.Histories.{accepted}
 use Rattle.history.specs.Steps.{left-yes, left-no}
+
+-- ── the five calls that alter the list or the holdings ──
+
+unfoldable pub Plain : Call → Type 0
+Plain (enter t) = Unit {0}
+Plain (amend t) = Unit {0}
+Plain (exclude n) = Unit {0}
+Plain roll = ⊥
+Plain (deposit a s q) = Unit {0}
+Plain (withdraw a s q) = Unit {0}
+Plain (run s) = ⊥
 
 -- ── the records ──
 

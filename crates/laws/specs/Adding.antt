@@ -109,6 +109,11 @@ module _ {A B : Type 0} where
   each-sumBy g f [] = refl
   each-sumBy g f (x ∷ l) = sumBy-append g (f x) (each f l) ∙ ap (λ (r : ℤ). sumBy g (f x) +ℤ r) (each-sumBy g f l)
 
+-- two numbers with the sum of two others: so too where they count only by one test
+pub cond-sum : (b : Bool) (x y x′ y′ : ℤ) → x′ +ℤ y′ ≡ x +ℤ y → cond b x′ (pos 0) +ℤ cond b y′ (pos 0) ≡ cond b x (pos 0) +ℤ cond b y (pos 0)
+cond-sum true x y x′ y′ e = e
+cond-sum false x y x′ y′ e = refl
+
 -- ── sums over the n numbers from i on ──
 
 -- none counts

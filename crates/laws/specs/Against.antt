@@ -21,7 +21,7 @@ use Rattle.rules.specs.declared.Position.{Position}
 use Rattle.rules.specs.declared.Book.{Book}
 use Rattle.laws.specs.Rows.{withoutBoth}
 use Rattle.laws.specs.Cases.{by-test, both-hold, and-hold, zero-is}
-use Rattle.laws.specs.Adding.{sumBy-keep, total-keep}
+use Rattle.laws.specs.Adding.{sumBy-keep, total-keep, cond-sum}
 use Rattle.laws.specs.Taking.{without-security, without-all, smaller-newly, smaller-older, pair-stays}
 use Rattle.laws.specs.Charging.{isOf, chargeIn, worth, weight}
 use Rattle.laws.specs.Meetings.{both-charged-long, both-worth, both-weight}
@@ -50,11 +50,7 @@ module _ (p o : Position) (k : ℕ) (f : Facing p o) (hp : k ≤ natAbs (quantit
   pair-shares : (s : ℕ) → sharesIn s (without p k) +ℤ sharesIn s (without o k) ≡ sharesIn s p +ℤ sharesIn s o
   pair-shares s =
       rw (without-security p k, without-security o k, f .security)
-      (alike (eqb (securityOf o) s) _ _ _ _ (pair-stays p o k (f .signs) hp ho))
-    where
-      alike : (t : Bool) (x y x′ y′ : ℤ) → x′ +ℤ y′ ≡ x +ℤ y → cond t x′ (pos 0) +ℤ cond t y′ (pos 0) ≡ cond t x (pos 0) +ℤ cond t y (pos 0)
-      alike true x y x′ y′ e = e
-      alike false x y x′ y′ e = refl
+      (cond-sum (eqb (securityOf o) s) _ _ _ _ (pair-stays p o k (f .signs) hp ho))
 
   module _ (b : Book) (a c : ℕ) (hc : c < currencies) (cs : List Mils) (long : length cs ≡ accounts * currencies)
       (up : currencyOf b (securityOf p) < currencies) (uo : currencyOf b (securityOf o) < currencies) where
@@ -185,21 +181,3 @@ against-keeps b p (o ∷ os) cs long up uo =
     (meeting b p o os cs _ (facing p o e) long up (u .0)
     (against-keeps b (without p n) os (chargedBoth b cs o p n) (both-charged-long b cs o p n ∙ long) (rw (without-security p n) up) (u .1))))
     (λ e. rw (against-passed b p o os cs e) (passing b p o os cs _ e (against-keeps b p os cs long up (u .1))))
-
--- in the words of charge and open money, over the newly due record and the older ones
-module _ (b : Book) (p : Position) (os : List Position) (cs : List Mils) (long : length cs ≡ accounts * currencies)
-    (up : inCurrency b p ≡ true) (uo : all (inCurrency b) os ≡ true) (a c : ℕ) (hc : c < currencies) where
-  abbrev met : Offsetting
-  met = against b p os cs
-
-  pub against-worth : worth b a c (met .charges) (met .newly ∷ met .older) ≡ worth b a c cs (p ∷ os)
-  against-worth =
-      rw (sumBy-keep moneyOf (isOf b a c) (met .newly ∷ met .older), sumBy-keep moneyOf (isOf b a c) (p ∷ os))
-      (against-keeps b p os cs long up uo .worths a c hc)
-
-  pub against-weight : weight b a c (met .charges) (met .newly ∷ met .older) ≤ weight b a c cs (p ∷ os)
-  unfolding total
-  against-weight =
-      let size : Position → ℕ = λ p. natAbs (moneyOf p) in
-      rw (total-keep size (isOf b a c) (met .newly ∷ met .older), total-keep size (isOf b a c) (p ∷ os))
-      (against-keeps b p os cs long up uo .stakes a c hc)

@@ -1,5 +1,5 @@
 -- Laws of `all`: from its elements, for parts of a list, and for lists that are made of the elements of another.
-use mathlib.Core.Path.{_≡_, refl}
+use mathlib.Core.Path.{_≡_, refl, ap}
 use mathlib.Core.Bool.{Bool, true, _&&_}
 use mathlib.Core.List.{List, [], _∷_, _++_, map}
 use Prim.Native.Nat.{ℕ, zero, suc, _+_, _<_, _≤_, zero-le, suc-le-suc}
@@ -55,11 +55,6 @@ module _ {A : Type 0} where
   all-left t [] m a = refl
   all-left t (x ∷ l) m a = let p = both-hold (t x) (all t (l ++ m)) a in and-hold (p .0) (all-left t l m (p .1))
 
-  pub all-right : (t : A → Bool) (l m : List A) → all t (l ++ m) ≡ true → all t m ≡ true
-  unfolding all
-  all-right t [] m a = a
-  all-right t (x ∷ l) m a = all-right t l m (both-hold (t x) (all t (l ++ m)) a .1)
-
   -- one element is replaced
   pub all-set : (t : A → Bool) (l : List A) (i : ℕ) (a : A) → all t l ≡ true → t a ≡ true → all t (set l i a) ≡ true
   unfolding all
@@ -94,7 +89,13 @@ module _ {A B : Type 0} where
 
 -- ── numbers ──
 
--- the n numbers from i on are below any k that is at least i + n
+-- the n numbers from i on
+pub from-length : (i n : ℕ) → length (from i n) ≡ n
+unfolding from
+from-length i zero = refl
+from-length i (suc n) = ap suc (from-length (suc i) n)
+
+-- they are below any k that is at least i + n
 pub from-below : (i n k : ℕ) → i + n ≤ k → all (λ j. ltb j k) (from i n) ≡ true
 unfolding from all
 from-below i zero k h = refl

@@ -1,7 +1,7 @@
 -- Every meeting is backed: its shares are positive, and at that moment the giver's account holds as many.
 use mathlib.Core.Path.{_≡_, refl, sym, ap, _∙_, subst}
 use mathlib.Core.Logic.{_≢_}
-use mathlib.Core.Bool.{Bool, true, false, cond}
+use mathlib.Core.Bool.{true, false, cond}
 use mathlib.Core.List.{List, [], _∷_, _++_}
 use Prim.Native.Nat.{ℕ, zero, suc, _+_, _-_, min, _≤_, _<_}
 use native.Mathlib.Omega.{arith}
@@ -15,7 +15,7 @@ use Rattle.rules.specs.Book.{quantityOf, accountOf, openOf, holdingAt}
 use Rattle.rules.specs.Run.{Side, side, Meeting, Running, shortOf, dueIn, giversOf, givers, receivers, leaving, filled, meetingsOf, meetings, moved, met, taken}
 use Rattle.rules.specs.declared.Position.{Position}
 use Rattle.rules.specs.declared.Book.{Book}
-use Rattle.laws.specs.Cases.{by-test, both-hold, and-hold}
+use Rattle.laws.specs.Cases.{by-test, both-hold, and-hold, cond-none}
 use Rattle.laws.specs.Merging.{meeting, leaving-none, leaving-some}
 use Rattle.laws.specs.Spare.{some}
 use Rattle.laws.specs.SidesOf.{holds, holding-apart}
@@ -71,12 +71,8 @@ leaving-account : (a : ℕ) (g : Side) (k : ℕ) (l : List Side) → k ≤ g .sh
 unfolding from-account total
 leaving-account a g k l h = go (ℕ-discrete (g .shares) k)
   where
-    nil : (t : Bool) (m : ℕ) → m ≡ 0 → cond t m 0 ≡ 0
-    nil true m e = e
-    nil false m e = refl
-
     go : Dec (g .shares ≡ k) → from-account a (leaving g k l) ≡ cond (eqb (g .account) a) (g .shares - k) 0 + from-account a l
-    go (yes e) = omega (arith, ap (from-account a) (leaving-none g k l e), nil (eqb (g .account) a) (g .shares - k) (omega arith))
+    go (yes e) = omega (arith, ap (from-account a) (leaving-none g k l e), cond-none (eqb (g .account) a) (g .shares - k) (omega arith))
     go (no e) = ap (from-account a) (leaving-some g k l (omega arith))
 
 -- every account holds what the sides have to give from it, and e more

@@ -1,6 +1,6 @@
 -- Creation leaves a sound book: the empty book with any table of currency codes.
 use mathlib.Core.Path.{_≡_, refl}
-use mathlib.Core.Bool.{Bool, true, false, not, _||_, _&&_}
+use mathlib.Core.Bool.{true, not, _&&_, or-true}
 use mathlib.Core.List.{List, [], _∷_}
 use Prim.Native.Nat.{ℕ, zero, suc, _*_}
 use lib.Dec.{eqb, leb}
@@ -30,10 +30,6 @@ unfolding holdsListed
 none-listed [] n = refl
 none-listed (c ∷ cs) zero = refl
 none-listed (c ∷ cs) (suc n) = and-hold (or-true (not (eqb c noCurrency))) (none-listed cs n)
-  where
-    or-true : (b : Bool) → b || true ≡ true
-    or-true true = refl
-    or-true false = refl
 
 module _ (codes : List ℕ) where
   no-records : recordsFit (emptyBook codes) ≡ true

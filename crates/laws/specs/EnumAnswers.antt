@@ -8,11 +8,12 @@ use Prim.Native.Nat.{ℕ, _-_}
 use lib.Dec.{eqb}
 use lib.IntN.{pos}
 use borrow.Author.Tests.{eqb-true, ne-eqb}
-use Rattle.rules.specs.Layout.{bookOf}
+use Rattle.rules.specs.Book.{emptyBook}
+use Rattle.rules.specs.Layout.{bookOf, bytesOf}
 use Rattle.rules.specs.Run.{sharesMoved}
-use Rattle.rules.specs.Calls.{Call, run, figure, answerBytes, figureBytes, runAnswer, numberOfRun, figureOfRun}
+use Rattle.rules.specs.Calls.{Call, run, figure, answerBytes, figureBytes, afterBytes, runAnswer, numberOfRun, figureOfRun}
 use Rattle.rules.specs.Marks.{Terms, markedOf, sumOf, favourableTotal, unfavourableTotal, dueAndSums, marksNumber, marks, numberOfMarks, figuresOfMarks}
-use Rattle.rules.specs.Records.{create, call, unreadable, recordAt, otherVersion, fileRefused, pastEnd, answerTo, recordAnswer, numberOfRecord, figureOfRecord}
+use Rattle.rules.specs.Records.{create, call, unreadable, recordAt, otherVersion, fileRefused, pastEnd, answerTo, recordAnswer, bytesAfter, applies, recordBytes, numberOfRecord, figureOfRecord}
 use Rattle.laws.specs.Cases.{by-test}
 
 -- ── a run: its number, and "The answer is the shares moved, 0 included", zero where it is refused ──
@@ -51,7 +52,7 @@ module _ (bs : List ℕ) (a : ℕ) (t : Terms) where
   unfolding marks figuresOfMarks
   marks-none n = rw (ne-eqb (marksNumber bs a t) 0 n)
 
--- ── a record of a call file: number and figure ──
+-- ── a record of a call file: number and figure, and the bytes that a call leaves ──
 
 module _ (book file : List ℕ) (place : ℕ) where
   -- "File: 18, a wrong book length included",
@@ -87,3 +88,12 @@ module _ (book file : List ℕ) (place : ℕ) where
             → (numberOfRecord (recordAnswer book file place) ≡ answerBytes book c) × (figureOfRecord (recordAnswer book file place) ≡ pos (figureBytes book c))
         unfolding recordAnswer answerTo numberOfRecord figureOfRecord
         record-call c e = rw (taken, ours, there, e) (refl, refl)
+
+        -- and the bytes are those that it leaves: of creation the empty book's, of another call what that call over the book leaves.
+        pub record-create-bytes : (codes : List ℕ) → recordAt file place ≡ create codes → recordBytes book file place ≡ bytesOf (emptyBook codes)
+        unfolding recordBytes recordAnswer answerTo applies bytesAfter
+        record-create-bytes codes e = rw (taken, ours, there, e) refl
+
+        pub record-call-bytes : (c : Call) → recordAt file place ≡ call c → recordBytes book file place ≡ afterBytes book c
+        unfolding recordBytes recordAnswer answerTo applies bytesAfter
+        record-call-bytes c e = rw (taken, ours, there, e) refl

@@ -1,4 +1,5 @@
--- The values of a book fit their bytes after each call on the list or the holdings, where the call's arguments fit their types; and those of the empty book.
+-- The values of a book fit their bytes after each call on the list or the holdings, where the call's arguments fit their types; and those of the empty book,
+-- which an accepted creation stores.
 use mathlib.Core.Path.{_≡_}
 use mathlib.Core.Bool.{true, cond, _||_}
 use mathlib.Core.List.{List, [], _∷_, _++_, map}
@@ -8,20 +9,20 @@ use lib.Dec.{eqb, leb, lit<}
 use lib.ListN.{length, getD, take, set, replicate}
 use lib.IntN.{pos}
 use lib.Signed.{mag}
-use borrow.Author.Tests.{leb-true, eqb-true}
-use Rattle.fields.specs.Codec.{Codec, All, none, more, number, all-set}
+use borrow.Author.Tests.{leb-true, eqb-true, eq-eqb}
+use Rattle.fields.specs.Codec.{Codec, All, none, more, number, all-set, all-copies}
 use Rattle.units.specs.Units.{mils}
 use Rattle.rules.specs.Words.{all}
 use Rattle.rules.specs.Bounds.{accounts, securities, currencies, lastCurrency, noCurrency, mostRecords, mostTrades}
 use Rattle.rules.specs.Book.{noPosition, noTrade, listOf, withList, withHoldings, holdingAt, heldBy, emptyBook}
-use Rattle.rules.specs.Layout.{position, amount, trade, book}
+use Rattle.rules.specs.Layout.{position, amount, trade, book, bytesOf}
 use Rattle.rules.specs.Sound.{isCode}
 use Rattle.rules.specs.Trades.{entered, replaced, amended, excludedTrade, excluded}
-use Rattle.rules.specs.Calls.{Call, enter, amend, exclude, roll, deposit, withdraw, run, after, answerSound}
+use Rattle.rules.specs.Calls.{Call, enter, amend, exclude, roll, deposit, withdraw, run, after, answerSound, createAnswer, createBytes}
 use Rattle.rules.specs.declared.Trade.{Trade}
 use Rattle.rules.specs.declared.Book.{Book}
-use Rattle.laws.specs.Cases.{by-test, both-hold}
-use Rattle.laws.specs.Accepted.{may-deposit}
+use Rattle.laws.specs.Cases.{by-test, both-hold, cond-yes}
+use Rattle.laws.specs.Accepted.{may-deposit, may-create}
 use Rattle.laws.specs.Totals.{held-part}
 use Rattle.laws.specs.Shaped.{fits-shaped, list-shaped, entered-room, replaced-room}
 
@@ -51,10 +52,6 @@ module _ {A : Type 0} (x : Codec A) where
   pub each-map : (f : A → A) (ls : List A) → ((a : A) → x .Ok a → x .Ok (f a)) → Each ls → Each (map f ls)
   each-map f [] p none = none
   each-map f (a ∷ ls) p (more h r) = more (p a h) (each-map f ls p r)
-
-  pub all-copies : (n : ℕ) (a : A) → x .Ok a → All x n (replicate n a)
-  all-copies zero a h = none
-  all-copies (suc n) a h = more h (all-copies n a h)
 
 -- ── another list, other holdings ──
 
@@ -177,3 +174,13 @@ empty-fits codes n e =
     let charges = all-copies amount (accounts * currencies) (mils (pos 0)) zero-fits in
     let trades = all-copies trade mostTrades noTrade no-trade-fits in
     (lit< tt, (so-many (number 1) securities codes n (codes-fit codes e), (lit< tt, (open-positions, (holdings, (charges, (lit< tt, trades)))))))
+
+-- ── creation ──
+
+module _ (bs codes : List ℕ) (e : createAnswer bs codes ≡ 0) where
+  pub stored-empty : createBytes bs codes ≡ bytesOf (emptyBook codes)
+  unfolding createBytes
+  stored-empty = cond-yes (bytesOf (emptyBook codes)) bs (eq-eqb (createAnswer bs codes) 0 e)
+
+  pub created-fits : book .Ok (emptyBook codes)
+  created-fits = let m = may-create bs codes e in empty-fits codes (m .0) (m .1)

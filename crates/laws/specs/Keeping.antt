@@ -1,19 +1,13 @@
--- Laws of `keep`, the elements of a list that pass a test: what passes, how many, and how tests, lists and maps go through it.
+-- Laws of `keep`, the elements of a list that pass a test: what passes, how many, and how tests and lists go through it.
 use mathlib.Core.Path.{_≡_, refl, sym, ap, _∙_}
-use mathlib.Core.Bool.{Bool, true, false, not, _&&_}
-use mathlib.Core.List.{List, [], _∷_, _++_, map}
+use mathlib.Core.Bool.{Bool, true, false, not, _&&_, and-comm}
+use mathlib.Core.List.{List, [], _∷_, _++_}
 use Prim.Native.Nat.{_≤_, zero-le, suc-le-suc}
 use native.Mathlib.Omega.{arith}
 use lib.ListN.{length}
 use borrow.Author.Tests.{not-true}
 use Rattle.rules.specs.Words.{all, keep, each}
 use Rattle.laws.specs.Cases.{by-test, both-hold, and-hold, cond-yes, cond-no}
-
-and-swap : (a b : Bool) → a && b ≡ b && a
-and-swap true true = refl
-and-swap true false = refl
-and-swap false true = refl
-and-swap false false = refl
 
 module _ {A : Type 0} where
   -- ── element by element ──
@@ -104,7 +98,7 @@ module _ {A : Type 0} where
 
   -- kept by two tests, in either order
   pub keep-swap : (t u : A → Bool) (l : List A) → keep t (keep u l) ≡ keep u (keep t l)
-  keep-swap t u l = keep-both t u l ∙ keep-same (λ x. u x && t x) (λ x. t x && u x) l (λ x. and-swap (u x) (t x)) ∙ sym (keep-both u t l)
+  keep-swap t u l = keep-both t u l ∙ keep-same (λ x. u x && t x) (λ x. t x && u x) l (λ x. and-comm (u x) (t x)) ∙ sym (keep-both u t l)
 
 -- ── lists made of the elements of a list ──
 
@@ -113,11 +107,3 @@ module _ {A B : Type 0} where
   unfolding each
   each-keep t f [] = keep-none t
   each-keep t f (x ∷ l) = keep-append t (f x) (each f l) ∙ ap (λ (r : List B). keep t (f x) ++ r) (each-keep t f l)
-
-  pub keep-map : (t : B → Bool) (f : A → B) (l : List A) → keep t (map f l) ≡ map f (keep (λ x. t (f x)) l)
-  keep-map t f [] = keep-none t ∙ sym (ap (map f) (keep-none (λ x. t (f x))))
-  keep-map t f (x ∷ l) =
-      let ih = keep-map t f l in
-      by-test (t (f x))
-      (λ e. keep-yes t (f x) (map f l) e ∙ ap (λ (r : List B). f x ∷ r) ih ∙ sym (ap (map f) (keep-yes (λ x. t (f x)) x l e)))
-      (λ e. keep-no t (f x) (map f l) e ∙ ih ∙ sym (ap (map f) (keep-no (λ x. t (f x)) x l e)))

@@ -35,7 +35,7 @@ total-fits k s e long h =
     leb-true _ mostHeld (all-at (λ t. leb t mostHeld) (totalsHeld (k .holdings)) s 0 (p .1) (omega (arith, totals-held-length (k .holdings) long)))
 
 -- an entry of a listed security may be anything
-listed-set : (cs hs : List ℕ) (s v : ℕ) → eqb (getD cs s 0) noCurrency ≡ false → holdsListed cs hs ≡ true → holdsListed cs (set hs s v) ≡ true
+pub listed-set : (cs hs : List ℕ) (s v : ℕ) → eqb (getD cs s 0) noCurrency ≡ false → holdsListed cs hs ≡ true → holdsListed cs (set hs s v) ≡ true
 unfolding holdsListed
 listed-set [] hs s v n e = refl
 listed-set (c ∷ cs) [] s v n e = refl

@@ -1,6 +1,6 @@
 -- An accepted entry, amendment or exclusion leaves a sound book: the list stays fit, and no other clause reads it.
 use mathlib.Core.Path.{_≡_, refl, sym, ap}
-use mathlib.Core.Bool.{Bool, true, false, cond, not, _&&_, _||_}
+use mathlib.Core.Bool.{true, false, cond, not, _&&_, _||_}
 use mathlib.Core.List.{List, [], _∷_, _++_, map}
 use Prim.Native.Nat.{ℕ, _-_, _≤_}
 use lib.Dec.{eqb, leb}
@@ -15,20 +15,13 @@ use Rattle.rules.specs.Trades.{used, badSecurity, entered, replaced, amended, e
 use Rattle.rules.specs.Calls.{enter, amend, exclude, after, answerSound}
 use Rattle.rules.specs.declared.Trade.{Trade}
 use Rattle.rules.specs.declared.Book.{Book}
-use Rattle.laws.specs.Cases.{by-test, both-hold, and-hold, neither}
+use Rattle.laws.specs.Cases.{by-test, both-hold, and-hold, neither, or-left, or-right}
 use Rattle.laws.specs.All.{all-both, map-all-in}
 use Rattle.laws.specs.Tables.{all-same}
-use Rattle.laws.specs.Listed.{listable}
+use Rattle.laws.specs.Listed.{listable, fit-each}
 use Rattle.laws.specs.SoundParts.{SoundBook, sound-parts, parts-sound, money-same}
 use Rattle.laws.specs.Accepted.{MayEnter, may-enter, may-amend}
 use Rattle.laws.specs.Shaped.{Shaped, entered-room, replaced-room}
-
-or-left : {a : Bool} (b : Bool) → a ≡ true → a || b ≡ true
-or-left b e = rw e
-
-or-right : (a : Bool) {b : Bool} → b ≡ true → a || b ≡ true
-or-right true e = refl
-or-right false e = e
 
 -- ── a list of trades ──
 
@@ -80,10 +73,6 @@ module _ (k : Book) (e : tradesFit k ≡ true) where
   pub was-apart : distinct (map (λ t. t .number) (listOf k)) ≡ true
   unfolding tradesFit
   was-apart = both-hold (distinct (map (λ t. t .number) (listOf k))) _ (both-hold (leb (k .entries) mostTrades) _ e .1) .0
-
-  was-each : all (listable k) (listOf k) ≡ true
-  unfolding tradesFit
-  was-each = both-hold (all (listable k) (listOf k)) _ (both-hold (distinct (map (λ t. t .number) (listOf k))) _ (both-hold (leb (k .entries) mostTrades) _ e .1) .1) .0
 
 -- ── entry ──
 
@@ -139,14 +128,14 @@ module _ (k : Book) (ok : sound k ≡ true) (c : Shaped k) where
       record {
         few = replaced-room k c (t .number) t;
         apart = rw (replaced-numbers (listOf k) t) (was-apart k (p .trades));
-        each = replaced-each k (listOf k) t v (was-each k (p .trades));
+        each = replaced-each k (listOf k) t v (fit-each k (p .trades));
       }
       p
 
   entered-each : (t : Trade) → MayEnter k t → all (listable k) (entered (listOf k) t) ≡ true
   unfolding entered all
   entered-each t m =
-      all-both (listable k) (listOf k) (t ∷ []) (was-each k (sound-parts k ok .trades)) (and-hold (and-hold (ap not (m .nonzero)) (or-left (zeroFields t) (m .valid))) refl)
+      all-both (listable k) (listOf k) (t ∷ []) (fit-each k (sound-parts k ok .trades)) (and-hold (and-hold (ap not (m .nonzero)) (or-left (zeroFields t) (m .valid))) refl)
 
   pub enter-kept : (t : Trade) → answerSound k (enter t) ≡ 0 → sound (after k (enter t)) ≡ true
   unfolding after

@@ -72,9 +72,8 @@ pub mod RunOthers
 pub mod RunRecords
 pub mod RunSigns
 pub mod RunSound
--- what is stored is read back
+-- what is stored fits its bytes
 pub mod Fitting
-pub mod ReadBack
 -- the call file and the sheet
 pub mod Files
 pub mod Decimals

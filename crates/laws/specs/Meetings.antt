@@ -2,7 +2,7 @@
 -- and so does each account's charge with its open money, whose sizes do not rise.
 use mathlib.Core.Path.{_≡_, refl, sym, ap, _∙_}
 use mathlib.Core.Logic.{_≢_}
-use mathlib.Core.Bool.{Bool, true, false, cond, not}
+use mathlib.Core.Bool.{Bool, cond, not}
 use mathlib.Core.List.{List, map}
 use Prim.Native.Nat.{ℕ, _+_, _*_, _<_, _≤_}
 use native.Mathlib.Nat.{le-trans}
@@ -10,7 +10,7 @@ use native.Mathlib.Omega.{arith}
 use lib.Dec.{eqb}
 use lib.ListN.{length, set, length-set}
 use lib.Seq.{getD-set-other, map-set-same}
-use lib.IntN.{ℤ, pos, natAbs, _+ℤ_}
+use lib.IntN.{pos, natAbs}
 use Rattle.integers.specs.Signs.{isNegative}
 use Rattle.integers.specs.Sums.{sumBy, sumBy-move}
 use Rattle.units.specs.declared.Mils.{Mils}
@@ -22,7 +22,7 @@ use Rattle.rules.specs.Parts.{partMoney, without, chargedTo, chargedBoth}
 use Rattle.rules.specs.declared.Position.{Position}
 use Rattle.rules.specs.declared.Book.{Book}
 use Rattle.laws.specs.Rows.{row, withoutBoth}
-use Rattle.laws.specs.Adding.{sumBy-keep}
+use Rattle.laws.specs.Adding.{sumBy-keep, cond-sum}
 use Rattle.laws.specs.Order.{same-numbers-ascend}
 use Rattle.laws.specs.Taking.{without-number, without-security, pair-stays}
 use Rattle.laws.specs.Charging.{chargeIn, worth, weight, open-money, charged-long, one-worth, one-weight}
@@ -67,12 +67,8 @@ module _ (ps : List Position) (i j k : ℕ) (hi : i < length ps) (hj : j < lengt
   both-shares-of t same both =
       sumBy-keep quantityOf t (withoutBoth ps i j k)
       ∙ sumBy-move (λ p. cond (t p) (quantityOf p) (pos 0)) ps i j (without (row ps i) k) (without (row ps j) k) noPosition hi hj ne
-      (rw (same (row ps i), same (row ps j), both) (alike (t (row ps i)) _ _ _ _ (pair-stays (row ps i) (row ps j) k o li lj)))
+      (rw (same (row ps i), same (row ps j), both) (cond-sum (t (row ps i)) _ _ _ _ (pair-stays (row ps i) (row ps j) k o li lj)))
       ∙ sym (sumBy-keep quantityOf t ps)
-    where
-      alike : (b : Bool) (x y x′ y′ : ℤ) → x′ +ℤ y′ ≡ x +ℤ y → cond b x′ (pos 0) +ℤ cond b y′ (pos 0) ≡ cond b x (pos 0) +ℤ cond b y (pos 0)
-      alike true x y x′ y′ e = e
-      alike false x y x′ y′ e = refl
 
   -- so that of the records of each security
   pub both-shares-security : (s : ℕ) → securityOf (row ps j) ≡ securityOf (row ps i)

@@ -38,7 +38,7 @@ inAccounts t = ltb (t .buyer) accounts && ltb (t .seller) accounts
 abbrev inSecurity : ℕ → Trade → Bool
 inSecurity s t = eqb (t .security) s
 
-abbrev hasPart : ℕ → Trade → Bool
+abbrev pub hasPart : ℕ → Trade → Bool
 hasPart a t = eqb (t .buyer) a || eqb (t .seller) a
 
 bought-zero : (v : Trade → ℕ) (a : ℕ) (t : Trade) → eqb (t .buyer) a ≡ false → bought v a t ≡ pos 0

@@ -1,18 +1,18 @@
 -- The nets of a sound book's list are of listed securities: in an unlisted one stand excluded trades alone, and these come to nothing.
 use mathlib.Core.Path.{_≡_, refl, ap, _∙_}
 use mathlib.Core.Bool.{Bool, true, false, not, _&&_, _||_}
-use mathlib.Core.List.{List, map}
+use mathlib.Core.List.{List}
 use Prim.Native.Nat.{ℕ, _<_}
 use native.Mathlib.Omega.{arith}
-use lib.Dec.{eqb, leb}
+use lib.Dec.{eqb}
 use lib.IntN.{pos}
 use borrow.Author.Tests.{eqb-true, not-true}
 use Rattle.integers.specs.Sizes.{natAbs-zero}
 use Rattle.rules.specs.Words.{all, keep}
-use Rattle.rules.specs.Bounds.{accounts, securities, mostTrades}
+use Rattle.rules.specs.Bounds.{accounts, securities}
 use Rattle.rules.specs.Book.{securityOf, listOf, unlisted}
 use Rattle.rules.specs.Trades.{amountOf, noSecurity, badAccounts, badSecurity, badQuantity, badPrice, sameAccount}
-use Rattle.rules.specs.Sound.{isPosition, validTrade, zeroFields, distinct, tradesFit}
+use Rattle.rules.specs.Sound.{isPosition, validTrade, zeroFields, tradesFit}
 use Rattle.rules.specs.Nets.{net, netOf, nets, tradesOf}
 use Rattle.rules.specs.declared.Position.{Position}
 use Rattle.rules.specs.declared.Trade.{Trade}
@@ -24,7 +24,7 @@ use Rattle.laws.specs.Adding.{sumBy-each-in, sumBy-nothing}
 use Rattle.laws.specs.Numbers.{number-security}
 use Rattle.laws.specs.NetLaws.{flow, flow-size, netOf-own}
 use Rattle.laws.specs.NetList.{net-number, nets-all, nets-positions}
-use Rattle.laws.specs.Listed.{listable}
+use Rattle.laws.specs.Listed.{listable, fit-each}
 
 -- ── one trade ──
 
@@ -85,13 +85,6 @@ module _ (k : Book) (s : ℕ) (u : unlisted k s ≡ true) where
 -- ── the list ──
 
 module _ (k : Book) (fit : tradesFit k ≡ true) where
-  each-listable : all (listable k) (listOf k) ≡ true
-  unfolding tradesFit
-  each-listable =
-      let x = both-hold (leb (k .entries) mostTrades) _ fit in
-      let y = both-hold (distinct (map (λ t. t .number) (listOf k))) _ (x .1) in
-      both-hold (all (listable k) (listOf k)) _ (y .1) .0
-
   abbrev onlyListed : Position → Bool
   onlyListed p = not (isPosition p && unlisted k (securityOf p))
 
@@ -101,7 +94,7 @@ module _ (k : Book) (fit : tradesFit k ≡ true) where
       (let p = netOf due (listOf k) a s in
       let e : securityOf p ≡ s = number-security p due a s ha hs (net-number due (listOf k) a s) in
       by-test (unlisted k s)
-      (λ u. rw (no-net k s u (listOf k) each-listable due a))
+      (λ u. rw (no-net k s u (listOf k) (fit-each k fit) due a))
       (λ u. rw (e, u) (nothing (isPosition p))))
     where
       nothing : (t : Bool) → not (t && false) ≡ true

@@ -45,20 +45,8 @@ pub by-security : (d a s u : ℕ) → s < u → numberOf d a s < numberOf d a u
 unfolding numberOf
 by-security d a s u h = omega arith
 
--- the same of records
+-- of records: what makes their numbers equal, and what the order of the numbers says of the due days
 module _ (p q : Position) where
-  pub earlier-record : dueOf p < dueOf q → p .number < q .number
-  unfolding dueOf
-  earlier-record h = omega arith
-
-  pub record-by-account : dueOf p ≡ dueOf q → accountOf p < accountOf q → p .number < q .number
-  unfolding dueOf accountOf
-  record-by-account e h = omega arith
-
-  pub record-by-security : dueOf p ≡ dueOf q → accountOf p ≡ accountOf q → securityOf p < securityOf q → p .number < q .number
-  unfolding dueOf accountOf securityOf
-  record-by-security e f h = omega arith
-
   pub same-number : dueOf p ≡ dueOf q → accountOf p ≡ accountOf q → securityOf p ≡ securityOf q → p .number ≡ q .number
   same-number e f h =
       let g : numberOf (dueOf p) (accountOf p) (securityOf p) ≡ numberOf (dueOf q) (accountOf q) (securityOf q) = rw (e, f, h) in

@@ -15,7 +15,7 @@ use Rattle.rules.specs.Words.{all, keep}
 use Rattle.rules.specs.Bounds.{accounts, currencies, mostTrades}
 use Rattle.rules.specs.Book.{quantityOf, isZero, dueOf, noPosition, noTrade, openOf, listOf, withOpen, withList, withCharges, withDay}
 use Rattle.rules.specs.Sound.{ascends, ascendsFrom, isPosition, isDue, dueNonzero}
-use Rattle.rules.specs.Nets.{net, netOf, tradesOf, nets}
+use Rattle.rules.specs.Nets.{net, netOf, nets}
 use Rattle.rules.specs.Roll.{Offset, offsetAll, remains, offset, uncharged, netted, emptied, nextDay, rolled, openPlusNets}
 use Rattle.rules.specs.declared.Position.{Position}
 use Rattle.rules.specs.declared.Trade.{Trade}
@@ -24,6 +24,7 @@ use Rattle.laws.specs.Cases.{true-false, both-hold, and-hold}
 use Rattle.laws.specs.All.{all-so, all-and}
 use Rattle.laws.specs.Keeping.{keep-whole, keep-nothing}
 use Rattle.laws.specs.Numbers.{number-order}
+use Rattle.laws.specs.NetLaws.{netOf-own}
 use Rattle.laws.specs.NetList.{nets-all, nets-positions}
 use Rattle.laws.specs.SoundParts.{SoundBook}
 use Rattle.laws.specs.Shaped.{Shaped}
@@ -58,13 +59,13 @@ due-by-last d (suc n) (p ∷ q ∷ ps) a l e =
 
 -- ── nothing is netted ──
 
-no-position : (due a s : ℕ) → isPosition (netOf due (tradesOf a []) a s) ≡ false
-unfolding netOf tradesOf net keep isPosition isZero
+pub no-position : (due a s : ℕ) → isPosition (netOf due [] a s) ≡ false
+unfolding netOf net keep isPosition isZero
 no-position due a s = refl
 
 pub no-nets : (due : ℕ) → nets due [] ≡ []
 no-nets due =
-    let none = nets-all due [] (λ p. not (isPosition p)) (λ a s ha hs. ap not (no-position due a s)) in
+    let none = nets-all due [] (λ p. not (isPosition p)) (λ a s ha hs. ap not (ap isPosition (netOf-own due [] a s) ∙ no-position due a s)) in
     sym (keep-whole isPosition (nets due []) (nets-positions due [])) ∙ keep-nothing isPosition (nets due []) none
 
 -- ── nothing is offset ──

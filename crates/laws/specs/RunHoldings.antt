@@ -2,9 +2,9 @@
 -- has no records and no holdings.
 use mathlib.Core.Path.{_≡_, refl, ap, _∙_}
 use mathlib.Core.Logic.{_≢_}
-use mathlib.Core.Bool.{Bool, true, false, not, _||_}
-use mathlib.Core.List.{List, [], _∷_}
-use Prim.Native.Nat.{ℕ, zero, suc, _+_, _*_, _-_, _<_}
+use mathlib.Core.Bool.{Bool, true, false, not}
+use mathlib.Core.List.{List, []}
+use Prim.Native.Nat.{ℕ, _+_, _*_, _-_, _<_}
 use native.Mathlib.Omega.{arith}
 use lib.Dec.{eqb, leb}
 use lib.ListN.{length, getD, set}
@@ -30,6 +30,7 @@ use Rattle.laws.specs.Taking.{without-security}
 use Rattle.laws.specs.Walk.{Walking, metAt, walked}
 use Rattle.laws.specs.SoundParts.{sound-parts}
 use Rattle.laws.specs.Shaped.{Shaped}
+use Rattle.laws.specs.KeptHoldings.{listed-set}
 use Rattle.laws.specs.RunKeeps.{Meets, Steady, walk-keeps}
 use Rattle.laws.specs.RunLeaves.{closed, closed-open, closed-holdings, room, settled-is, end-steady, end-pass}
 
@@ -46,14 +47,6 @@ moved-past hs i j k m ni nj =
     getD-set-other less j m (getD less j 0 + k) 0 nj ∙ getD-set-other hs i m (getD hs i 0 - k) 0 ni
 
 -- ── holdings of a listed security may be any ──
-
-listed-set : (cs hs : List ℕ) (s v : ℕ) → eqb (getD cs s 0) noCurrency ≡ false → holdsListed cs hs ≡ true → holdsListed cs (set hs s v) ≡ true
-unfolding holdsListed
-listed-set [] hs s v e h = refl
-listed-set (c ∷ cs) [] s v e h = refl
-listed-set (c ∷ cs) (x ∷ hs) zero v e h = rw e (both-hold (not (eqb c noCurrency) || eqb x 0) (holdsListed cs hs) h .1)
-listed-set (c ∷ cs) (x ∷ hs) (suc s) v e h =
-    let p = both-hold (not (eqb c noCurrency) || eqb x 0) (holdsListed cs hs) h in and-hold (p .0) (listed-set cs hs s v e (p .1))
 
 -- the accounts' holdings, where unlisted securities have none
 abbrev AllListed : List ℕ → List ℕ → Type 0

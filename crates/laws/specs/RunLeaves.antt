@@ -21,7 +21,7 @@ use Rattle.rules.specs.declared.Book.{Book}
 use Rattle.laws.specs.Cases.{both-hold, is-zero}
 use Rattle.laws.specs.All.{all-set}
 use Rattle.laws.specs.Walks.{all-at}
-use Rattle.laws.specs.Order.{keep-ascends, same-numbers-ascend}
+use Rattle.laws.specs.Order.{same-numbers-ascend}
 use Rattle.laws.specs.Rows.{row, withoutBoth}
 use Rattle.laws.specs.Walk.{Walking, metAt, walked}
 use Rattle.laws.specs.WalkIsRun.{ruled}
@@ -87,9 +87,6 @@ module _ (b : Book) (s : ℕ) (hs : s < 32) (ok : sound b ≡ true) (shape : Sha
   -- numbers ascend
   pub end-ascends : ascends (x₁ .records) ≡ true
   end-ascends = same-numbers-ascend (openOf b) (x₁ .records) (end-steady .numbers) ∙ sound-runnable b ok .order
-
-  pub run-ascends : ascends (openOf (settled b s)) ≡ true
-  run-ascends = ap ascends settled-open ∙ keep-ascends (remains (b .day)) (x₁ .records) end-ascends
 
   -- what a record passes that loses shares, every record passes at the end
   module _ (t : Position → Bool) (still : (p : Position) (k : ℕ) → Loses b s p k → t p ≡ true → t (without p k) ≡ true) where

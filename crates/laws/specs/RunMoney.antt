@@ -6,15 +6,14 @@ use mathlib.Core.List.{List, [], _∷_}
 use Prim.Native.Nat.{ℕ, _+_, _<_, _≤_}
 use native.Mathlib.Omega.{arith}
 use native.Mathlib.Decide.{ℕ-discrete}
-use lib.Dec.{eqb, leb}
 use lib.ListN.{getD}
 use lib.IntN.{ℤ, pos, natAbs, _+ℤ_}
-use borrow.Author.Tests.{ne-eqb, leb-true}
+use borrow.Author.Tests.{ne-eqb}
 use Rattle.integers.specs.Linear.{zlin}
 use Rattle.integers.specs.Sums.{sumBy}
 use Rattle.units.specs.declared.Mils.{Mils}
 use Rattle.rules.specs.Words.{all, keep, total}
-use Rattle.rules.specs.Bounds.{currencies, lastCurrency, noCurrency}
+use Rattle.rules.specs.Bounds.{currencies}
 use Rattle.rules.specs.Book.{quantityOf, moneyOf, isZero, securityOf, openOf, currencyOf, unlisted, withOpen, withHoldings, withCharges}
 use Rattle.rules.specs.Sound.{isCode, codesFit, isDue, dueNonzero, recordsOf, openMoney, moneyFits, sound}
 use Rattle.rules.specs.Parts.{partMoney, without}
@@ -22,7 +21,7 @@ use Rattle.rules.specs.Roll.{remains}
 use Rattle.rules.specs.Run.{settled}
 use Rattle.rules.specs.declared.Position.{Position}
 use Rattle.rules.specs.declared.Book.{Book}
-use Rattle.laws.specs.Cases.{by-test, true-false, both-hold, is-zero, zero-is}
+use Rattle.laws.specs.Cases.{by-test, both-hold, is-zero, zero-is, or-left, or-right}
 use Rattle.laws.specs.All.{all-so}
 use Rattle.laws.specs.Walks.{all-at}
 use Rattle.laws.specs.Keeping.{keep-none, keep-yes, keep-no, keep-all, keep-swap}
@@ -32,7 +31,7 @@ use Rattle.laws.specs.Taking.{without-money, none-left, all-money}
 use Rattle.laws.specs.Charging.{isOf, chargeIn, worth, weight, open-money}
 use Rattle.laws.specs.Meetings.{both-worth, both-weight}
 use Rattle.laws.specs.Walk.{Walking, metAt, walked}
-use Rattle.laws.specs.SoundParts.{sound-parts}
+use Rattle.laws.specs.SoundParts.{sound-parts, code-below}
 use Rattle.laws.specs.Shaped.{Shaped}
 use Rattle.laws.specs.Stakes.{stake, stake-within, within-stake}
 use Rattle.laws.specs.RunKeeps.{Loses, Meets, Steady, walk-keeps}
@@ -43,13 +42,6 @@ use Rattle.laws.specs.RunLeaves.{closed, closed-open, closed-charges, ro
 -- due with no shares: no money is left
 unfoldable pub isClear : ℕ → Position → Bool
 isClear day p = dueNonzero day p || isZero (moneyOf p)
-
-or-left : (x y : Bool) → x ≡ true → x || y ≡ true
-or-left x y e = rw e
-
-or-right : (x y : Bool) → y ≡ true → x || y ≡ true
-or-right true y e = refl
-or-right false y e = e
 
 not-both : (x y : Bool) → y ≡ false → not (x && y) ≡ true
 not-both true y e = rw e
@@ -63,10 +55,10 @@ clear-rest b s p k h = go (ℕ-discrete k (natAbs (quantityOf p)))
     go (yes e) =
         let all-of : partMoney p k ≡ moneyOf p = ap (partMoney p) e ∙ all-money p (omega (arith, h .some)) in
         let split = without-money p k in
-        or-right (not (isDue (b .day) (without p k) && isZero (quantityOf (without p k)))) (isZero (moneyOf (without p k)))
+        or-right (not (isDue (b .day) (without p k) && isZero (quantityOf (without p k))))
         (zero-is (moneyOf (without p k)) (simp zlin (omega (arith, simp zlin at all-of, simp zlin at split))))
     go (no e) =
-        or-left (not (isDue (b .day) (without p k) && isZero (quantityOf (without p k)))) (isZero (moneyOf (without p k)))
+        or-left (isZero (moneyOf (without p k)))
         (not-both (isDue (b .day) (without p k)) (isZero (quantityOf (without p k))) (none-left p k (h .within) ∙ ne-eqb k (natAbs (quantityOf p)) e))
 
 -- what goes has no money
@@ -85,10 +77,6 @@ sum-kept-in u t f (x ∷ l) a h =
     by-test (t x) (λ e. rw (keep-yes t x l e, ih)) (λ e. rw (keep-no t x l e, h x (p .0) e, ih) (simp zlin (omega arith)))
 
 -- ── a listed security has a currency ──
-
-code-below : (c : ℕ) → isCode c ≡ true → eqb c noCurrency ≡ false → c < currencies
-unfolding isCode
-code-below c e f = omega (arith, leb-true c lastCurrency (by-test (leb c lastCurrency) (λ t. t) (λ t. true-false (rw (t, f) at e) refl)))
 
 module _ (b : Book) (s : ℕ) (hs : s < 32) (ok : sound b ≡ true) (shape : Shaped b) (listed : unlisted b s ≡ false) where
   abbrev x₁ : Walking
@@ -110,7 +98,7 @@ module _ (b : Book) (s : ℕ) (hs : s < 32) (ok : sound b ≡ true) (shape : Sha
   unfolding isClear
   end-clear =
       end-pass b s hs ok shape (isClear (b .day)) (λ p k h e. clear-rest b s p k h)
-      (all-so (dueNonzero (b .day)) (isClear (b .day)) (openOf b) (λ p e. or-left (dueNonzero (b .day) p) (isZero (moneyOf p)) e) (sound-parts b ok .due-nonzero))
+      (all-so (dueNonzero (b .day)) (isClear (b .day)) (openOf b) (λ p e. or-left (isZero (moneyOf p)) e) (sound-parts b ok .due-nonzero))
 
   module _ (a c : ℕ) (hc : c < currencies) where
     -- charge and open money together stay

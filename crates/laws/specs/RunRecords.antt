@@ -19,7 +19,7 @@ use Rattle.rules.specs.Roll.{remains}
 use Rattle.rules.specs.Run.{settled}
 use Rattle.rules.specs.declared.Position.{Position}
 use Rattle.rules.specs.declared.Book.{Book}
-use Rattle.laws.specs.Cases.{by-test, true-false, both-hold, and-hold}
+use Rattle.laws.specs.Cases.{by-test, true-false, both-hold, and-hold, or-right}
 use Rattle.laws.specs.All.{all-so, all-and}
 use Rattle.laws.specs.Keeping.{keep-length, keep-passes, keep-all}
 use Rattle.laws.specs.Order.{keep-ascends}
@@ -37,16 +37,12 @@ use Rattle.laws.specs.RunLeaves.{closed, closed-open, settled-is, settle
 abbrev fitting : ℕ → Position → Bool
 fitting day p = leb (natAbs (quantityOf p)) mostShares && (leb (natAbs (moneyOf p)) mostMils && (isDue day p || isPosition p))
 
-or-yes : (x y : Bool) → y ≡ true → x || y ≡ true
-or-yes true y e = refl
-or-yes false y e = e
-
 fit-fitting : (day : ℕ) (p : Position) → sizesFit p ≡ true → fitting day p ≡ true
 unfolding sizesFit
 fit-fitting day p e =
     let u = both-hold (leb (natAbs (quantityOf p)) mostShares) (leb (natAbs (moneyOf p)) mostMils && isPosition p) e in
     let v = both-hold (leb (natAbs (moneyOf p)) mostMils) (isPosition p) (u .1) in
-    and-hold (u .0) (and-hold (v .0) (or-yes (isDue day p) (isPosition p) (v .1)))
+    and-hold (u .0) (and-hold (v .0) (or-right (isDue day p) (v .1)))
 
 rest-due : (b : Book) (s : ℕ) (p : Position) (k : ℕ) → Loses b s p k → isDue (b .day) (without p k) ≡ true
 unfolding isDue

@@ -1,7 +1,7 @@
 -- The shares of a run: each security's quantities due by the day total as before, as do those due on day + 1; what is owed and what is wanted
 -- each fall by the shares moved.
 use mathlib.Core.Path.{_≡_, refl, sym, ap, _∙_}
-use mathlib.Core.Bool.{Bool, true, false, cond, _&&_}
+use mathlib.Core.Bool.{Bool, true, false, _&&_}
 use mathlib.Core.List.{List, [], _∷_}
 use Prim.Native.Nat.{ℕ, _+_, _-_, _<_}
 use native.Mathlib.Omega.{arith}
@@ -19,7 +19,7 @@ use Rattle.rules.specs.Roll.{remains}
 use Rattle.rules.specs.Run.{Side, shortOf, longOf, dueIn, receivers, wanted, sharesMoved, settled}
 use Rattle.rules.specs.declared.Position.{Position}
 use Rattle.rules.specs.declared.Book.{Book}
-use Rattle.laws.specs.Cases.{both-hold, and-hold}
+use Rattle.laws.specs.Cases.{both-hold, and-hold, cond-none}
 use Rattle.laws.specs.All.{all-so}
 use Rattle.laws.specs.Keeping.{keep-both, keep-swap}
 use Rattle.laws.specs.Adding.{sumBy-kept, total-kept, total-set}
@@ -45,15 +45,11 @@ total-both f ps g r k hg hr ne =
     let e′ = rw (getD-set-other ps g r p noPosition ne) at (total-set f (set ps g p) r (without (row ps r) k) noPosition (omega (arith, length-set ps g p))) in
     omega arith
 
-chosen-none : (t : Bool) (m : ℕ) → m ≡ 0 → cond t m 0 ≡ 0
-chosen-none true m e = e
-chosen-none false m e = refl
-
 -- what is owed is k less, and what is wanted
-owes-less : (d s : ℕ) (p : Position) (k : ℕ) → owes d s (without p k) ≡ owes d s p - k
+pub owes-less : (d s : ℕ) (p : Position) (k : ℕ) → owes d s (without p k) ≡ owes d s p - k
 owes-less d s p k = ap (λ (x : Side). x .shares) (owing-less d s p k)
 
-wants-less : (d s : ℕ) (p : Position) (k : ℕ) → wants d s (without p k) ≡ wants d s p - k
+pub wants-less : (d s : ℕ) (p : Position) (k : ℕ) → wants d s (without p k) ≡ wants d s p - k
 wants-less d s p k = ap (λ (x : Side). x .shares) (wanting-less d s p k)
 
 -- the receivers' total is all that is wanted
@@ -180,11 +176,11 @@ module _ (b : Book) (s : ℕ) (hs : s < 32) (ok : sound b ≡ true) (shape : Sha
 
   none-owed : (p : Position) → remains (b .day) p ≡ false → owes (b .day) s p ≡ 0
   unfolding owes shortOf
-  none-owed p e = chosen-none (isDueIn (b .day) s p) _ (ap shortOf (gone (b .day) p e .1))
+  none-owed p e = cond-none (isDueIn (b .day) s p) _ (ap shortOf (gone (b .day) p e .1))
 
   none-wanted : (p : Position) → remains (b .day) p ≡ false → wants (b .day) s p ≡ 0
   unfolding wants longOf
-  none-wanted p e = chosen-none (isDueIn (b .day) s p) _ (ap longOf (gone (b .day) p e .1))
+  none-wanted p e = cond-none (isDueIn (b .day) s p) _ (ap longOf (gone (b .day) p e .1))
 
   pub run-owed : total (owes (b .day) s) (openOf (settled b s)) + sharesMoved b s ≡ total (owes (b .day) s) (openOf b)
   run-owed =

@@ -54,7 +54,7 @@ module _ (b : Book) (s : ℕ) (hs : s < 32) where
   unfolding meet
   meet-none g r x e = rw (le-ltb 0 (sizeOf d s x g r) (omega arith)) (either (ltb 0 (wants d s (row (x .records) r))) x)
 
-  none-left : (g : ℕ) (x : Walking) → owes d s (row (x .records) g) ≡ 0 → leftToGive d s x g ≡ 0
+  pub none-left : (g : ℕ) (x : Walking) → owes d s (row (x .records) g) ≡ 0 → leftToGive d s x g ≡ 0
   unfolding leftToGive
   none-left g x e = omega arith
 

@@ -1,28 +1,29 @@
 -- How clauses of a sound book are shown: balance by sums, one sign by records that do not face each other, money at stake account by
 -- account; and that the records of a sound book have currencies.
 use mathlib.Core.Path.{_≡_, sym, ap, _∙_}
-use mathlib.Core.Bool.{Bool, true, false, not, _&&_}
+use mathlib.Core.Bool.{Bool, true, not, _&&_}
 use mathlib.Core.List.{List}
 use Prim.Native.Nat.{ℕ, zero, _+_, _<_, _≤_}
 use native.Mathlib.Omega.{arith}
-use lib.Dec.{eqb, leb}
+use lib.Dec.{eqb}
 use lib.ListN.{length, getD}
 use lib.IntN.{ℤ, pos, natAbs, _+ℤ_}
-use borrow.Author.Tests.{lt-ltb, leb-true, not-true}
+use borrow.Author.Tests.{lt-ltb, not-true}
 use Rattle.integers.specs.Sums.{sumBy}
 use Rattle.rules.specs.Words.{all, keep, total}
-use Rattle.rules.specs.Bounds.{accounts, securities, currencies, lastCurrency, noCurrency, everySecurity, mostAtStake}
+use Rattle.rules.specs.Bounds.{accounts, securities, currencies, noCurrency, everySecurity, mostAtStake}
 use Rattle.rules.specs.Book.{quantityOf, moneyOf, isZero, securityOf, openOf, currencyOf, unlisted}
 use Rattle.rules.specs.Sound.{isCode, codesFit, agree, oneSign, balanced, moneyFits}
 use Rattle.rules.specs.declared.Position.{Position}
 use Rattle.rules.specs.declared.Book.{Book}
-use Rattle.laws.specs.Cases.{by-test, true-false, both-hold, is-zero, zero-is}
+use Rattle.laws.specs.Cases.{both-hold, is-zero, zero-is}
 use Rattle.laws.specs.Walks.{all-at}
 use Rattle.laws.specs.All.{all-so, all-and}
 use Rattle.laws.specs.Keeping.{keep-all}
 use Rattle.laws.specs.Adding.{sumBy-keep, total-keep}
 use Rattle.laws.specs.Numbers.{security-below}
 use Rattle.laws.specs.Charging.{isOf, chargeIn, open-money}
+use Rattle.laws.specs.SoundParts.{code-below}
 use Rattle.laws.specs.Stakes.{within-stake}
 use Rattle.laws.specs.Facing.{apart, peace, agree-apart, apart-agree}
 use Rattle.laws.specs.Against.{sharesIn, sizeIn, inCurrency}
@@ -97,10 +98,4 @@ has-currency k p a long u =
     let s = securityOf p in
     let c = getD (k .currency) s 0 in
     let code : isCode c ≡ true = all-at isCode (k .currency) s 0 a (omega (arith, security-below p)) in
-    lt-ltb c currencies (below c code (not-true (eqb c noCurrency) u))
-  where
-    below : (c : ℕ) → isCode c ≡ true → eqb c noCurrency ≡ false → c < currencies
-    below c e f =
-        by-test (leb c lastCurrency)
-        (λ g. omega (arith, leb-true c lastCurrency g))
-        (λ g. true-false (rw g at e) f)
+    lt-ltb c currencies (code-below c code (not-true (eqb c noCurrency) u))

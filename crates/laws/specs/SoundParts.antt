@@ -1,16 +1,22 @@
--- The clauses of a sound book by name: all of them from `sound`, and `sound` from all of them. And what the clause on money at stake reads.
+-- The clauses of a sound book by name: all of them from `sound`, and `sound` from all of them. What those on the day, the codes and the sizes say, and what the
+-- one on money at stake reads.
 use mathlib.Core.Path.{_≡_, refl, ap, ap₂, _∙_}
-use mathlib.Core.Bool.{Bool, true, _&&_}
+use mathlib.Core.Bool.{Bool, true, false, _&&_}
 use mathlib.Core.List.{List, [], _∷_}
-use Prim.Native.Nat.{ℕ, suc}
+use Prim.Native.Nat.{ℕ, suc, _<_, _≤_}
+use native.Mathlib.Omega.{arith}
+use lib.Dec.{eqb, leb}
+use lib.IntN.{natAbs}
+use borrow.Author.Tests.{leb-true}
+use Rattle.units.specs.Units.{mostShares}
 use Rattle.units.specs.declared.Mils.{Mils}
 use Rattle.rules.specs.Words.{all, keep}
-use Rattle.rules.specs.Bounds.{accounts, currencies}
-use Rattle.rules.specs.Book.{openOf, currencyOf}
-use Rattle.rules.specs.Sound.{dayFits, codesFit, recordsFit, sizesFit, dueFits, isDue, dueNonzero, oneSign, dueBalanced, byAccount, holdingsFit, unlistedEmpty, openMoney, moneyFitsOf, moneyFitsFrom, recordsOf, moneyFits, tradesFit, sound}
+use Rattle.rules.specs.Bounds.{accounts, currencies, lastDay, lastCurrency, noCurrency}
+use Rattle.rules.specs.Book.{quantityOf, openOf, currencyOf}
+use Rattle.rules.specs.Sound.{dayFits, isCode, codesFit, recordsFit, sizesFit, dueFits, isDue, dueNonzero, oneSign, dueBalanced, byAccount, holdingsFit, unlistedEmpty, openMoney, moneyFitsOf, moneyFitsFrom, recordsOf, moneyFits, tradesFit, sound}
 use Rattle.rules.specs.declared.Position.{Position}
 use Rattle.rules.specs.declared.Book.{Book}
-use Rattle.laws.specs.Cases.{both-hold, and-hold}
+use Rattle.laws.specs.Cases.{by-test, true-false, both-hold, and-hold}
 
 pub record SoundBook (k : Book) : Type 0 where
   pub day : dayFits k ≡ true
@@ -69,6 +75,20 @@ parts-sound k c =
     (and-hold (c .holdings)
     (and-hold (c .listed)
     (and-hold (c .money) (c .trades)))))))))))
+
+-- ── the day, a currency code, a quantity ──
+
+pub day-small : (k : Book) → sound k ≡ true → k .day ≤ lastDay
+unfolding dayFits
+day-small k ok = leb-true (k .day) lastDay (sound-parts k ok .day)
+
+pub code-below : (c : ℕ) → isCode c ≡ true → eqb c noCurrency ≡ false → c < currencies
+unfolding isCode
+code-below c e f = omega (arith, leb-true c lastCurrency (by-test (leb c lastCurrency) (λ t. t) (λ t. true-false (rw (t, f) at e) refl)))
+
+pub shares-fit : (p : Position) → sizesFit p ≡ true → natAbs (quantityOf p) ≤ mostShares
+unfolding sizesFit
+shares-fit p e = leb-true (natAbs (quantityOf p)) mostShares (both-hold (leb (natAbs (quantityOf p)) mostShares) _ e .0)
 
 -- ── the money at stake reads currencies, open positions and charges ──
 

@@ -9,7 +9,6 @@ use native.Mathlib.Omega.{arith}
 use native.Mathlib.Decide.{decLt}
 use lib.Dec.{eqb}
 use lib.ListN.{length, length-take, length-map, List·getD-eq-default}
-use lib.IntN.{ℤ, pos, negsuc}
 use borrow.Author.Tests.{eqb-true, eq-eqb}
 use Rattle.integers.specs.Signs.{isNegative}
 use Rattle.rules.specs.Words.{all, keep}
@@ -21,6 +20,7 @@ use Rattle.rules.specs.declared.Book.{Book}
 use Rattle.laws.specs.Cases.{by-test, true-false, both-hold, and-hold}
 use Rattle.laws.specs.Keeping.{keep-yes, keep-no}
 use Rattle.laws.specs.Rows.{row}
+use Rattle.laws.specs.Taking.{short-sign, long-sign}
 use Rattle.laws.specs.Walk.{Walking, isDueIn, owes, wants, walked}
 use Rattle.laws.specs.Merging.{running, walkedAll, all-taken, all-shares}
 use Rattle.laws.specs.Spare.{noSide, at, some}
@@ -46,16 +46,6 @@ kept-at t u (p ∷ ps) (suc i) a h e =
 cond-some : (c : Bool) (m : ℕ) → 0 < cond c m 0 → (c ≡ true) × (0 < m)
 cond-some true m h = (refl, h)
 cond-some false m h = absurd (omega arith)
-
-short-sign : (q : ℤ) → 0 < shortOf q → isNegative q ≡ true
-unfolding shortOf
-short-sign (pos m) h = absurd (omega arith)
-short-sign (negsuc m) h = refl
-
-long-sign : (q : ℤ) → 0 < longOf q → isNegative q ≡ false
-unfolding longOf
-long-sign (pos m) h = refl
-long-sign (negsuc m) h = absurd (omega arith)
 
 pub owes-says : (d s : ℕ) (p : Position) → 0 < owes d s p → (securityOf p ≡ s) × (isDue d p ≡ true) × (isNegative (quantityOf p) ≡ true)
 unfolding owes isDueIn

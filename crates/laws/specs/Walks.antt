@@ -1,6 +1,6 @@
 -- What a loop over a table needs of `all`: nothing tested yet, one more passes, one fails, all passed. And that `all` reads each element.
 use mathlib.Core.Path.{_≡_, refl, sym, ap, _∙_}
-use mathlib.Core.Bool.{Bool, true, false, _&&_, and-false}
+use mathlib.Core.Bool.{Bool, true, false, _&&_, and-false, and-true}
 use mathlib.Core.List.{List, [], _∷_, _++_}
 use Prim.Native.Nat.{ℕ, zero, suc, _+_, _<_, _≤_}
 use native.Mathlib.Nat.{le-of-suc-le-suc}
@@ -9,15 +9,7 @@ use native.Mathlib.Omega.{arith}
 use lib.ListN.{length, getD, take}
 use lib.Seq.{take-suc, take-all}
 use Rattle.rules.specs.Words.{all}
-use Rattle.laws.specs.Cases.{both-hold}
-
-and-step : (b p q r : Bool) → p ≡ q && r → b && p ≡ (b && q) && r
-and-step true p q r e = e
-and-step false p q r e = refl
-
-and-true : (b : Bool) → b && true ≡ b
-and-true true = refl
-and-true false = refl
+use Rattle.laws.specs.Cases.{both-hold, and-step}
 
 module _ {A : Type 0} (t : A → Bool) where
   pub all-append : (l m : List A) → all t (l ++ m) ≡ all t l && all t m

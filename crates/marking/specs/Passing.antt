@@ -1,6 +1,6 @@
 -- The tests of marks: what is known of the terms when 2, 18, 5 and 15 are passed, and how 17 and 16 follow them.
 use mathlib.Core.Path.{_≡_, refl, _∙_}
-use mathlib.Core.Bool.{Bool, true, false, not, cond, _||_}
+use mathlib.Core.Bool.{Bool, true, false, not, cond, _||_, or-assoc}
 use mathlib.Core.List.{List, [], _∷_}
 use Prim.Native.Nat.{ℕ, _≤_}
 use native.Mathlib.Omega.{arith}
@@ -32,10 +32,6 @@ bad-rated t = refl
 
 four : (l : List ℕ) → not (eqb (length l) 4) ≡ false → length l ≡ 4
 four l e = eqb-true (length l) 4 (not-false _ e)
-
-or-assoc : (a b c : Bool) → (a || b) || c ≡ a || (b || c)
-or-assoc true b c = refl
-or-assoc false b c = refl
 
 -- the two tables, and then the two others
 pub wrong-split : (t : Terms)

@@ -1,16 +1,14 @@
 -- Marks of a sound book: the tests that follow the one for soundness, in their order, and the answer. That this is what marks over the lent
 -- bytes answer.
-use mathlib.Core.Path.{_≡_, sym}
+use mathlib.Core.Path.{_≡_}
 use mathlib.Core.Bool.{true, false, cond, _||_}
 use mathlib.Core.List.{List, [], _∷_}
 use Prim.Native.Nat.{ℕ}
 use lib.Dec.{eqb}
-use lib.ListN.{length}
-use borrow.Author.Tests.{eq-eqb, ne-eqb}
 use Rattle.rules.specs.Words.{any, Test, first}
-use Rattle.rules.specs.Layout.{bookLength, bookOf}
+use Rattle.rules.specs.Layout.{bookOf}
 use Rattle.rules.specs.Trades.{noAccount}
-use Rattle.rules.specs.Sound.{sound, notSound}
+use Rattle.rules.specs.Sound.{notSound}
 use Rattle.rules.specs.Prices.{entryAbove}
 use Rattle.rules.specs.Marks.{Terms, markedOf, lacksPrice, dueAndSums, wrongTerms, badRates, passesLimit, marksTests, marksNumber, marks}
 use Rattle.rules.specs.declared.Book.{Book}
@@ -49,16 +47,3 @@ module _ (bs : List ℕ) (a : ℕ) (t : Terms) where
   pub marks-unsound : notSound bs ≡ true → marks bs a t ≡ MarksRefused 1
   unfolding marks marksNumber marksTests first
   marks-unsound e = rw e
-
-  -- as a call over the bytes returns: the length is wrong, the book is not sound, it is sound
-  pub wrong-length : (length bs ≡ bookLength → ⊥) → MarksRefused 1 ≡ marks bs a t
-  unfolding notSound
-  wrong-length h = sym (marks-unsound (rw (ne-eqb (length bs) bookLength h)))
-
-  pub not-sound : length bs ≡ bookLength → sound (bookOf bs) ≡ false → MarksRefused 1 ≡ marks bs a t
-  unfolding notSound
-  not-sound l e = sym (marks-unsound (rw (eq-eqb (length bs) bookLength l, e)))
-
-  pub is-sound : length bs ≡ bookLength → sound (bookOf bs) ≡ true → marksSound (bookOf bs) a t ≡ marks bs a t
-  unfolding notSound
-  is-sound l e = sym (marks-sound (rw (eq-eqb (length bs) bookLength l, e)))

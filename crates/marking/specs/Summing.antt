@@ -29,7 +29,7 @@ use Rattle.laws.specs.Adding.{sumBy-keep}
 use Rattle.laws.specs.Charging.{amountAt, charged-length, charged-at, isOf}
 use Rattle.laws.specs.Numbers.{security-below}
 use Rattle.laws.specs.SoundParts.{sound-parts}
-use Rattle.sound_positions.specs.Table.{records-within}
+use Rattle.laws.specs.Blanks.{records-few}
 use Rattle.sound_tables.specs.Stakes.{MoneyAsks, currency-below}
 use Rattle.marking.specs.declared.marks.PerCurrency.{PerCurrency}
 use Rattle.marking.specs.Pricing.{Fair, price-within}
@@ -156,7 +156,7 @@ module _ (k : Book) (ok : sound k ≡ true) (codes-long : length (k .currency) �
   parts : MoneyAsks k
   parts =
       let p = sound-parts k ok in
-      record { records = records-within k (p .records); sizes = p .sizes; codes = p .codes; listed = p .listed }
+      record { records = records-few k (p .records); sizes = p .sizes; codes = p .codes; listed = p .listed }
 
   pub open-within : k .records ≤ mostRecords
   open-within = parts .records

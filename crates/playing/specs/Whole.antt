@@ -19,7 +19,7 @@ use Rattle.rules.specs.Records.{create, recordAt, otherVersion, tooLong, fileRe
 use Rattle.rules.specs.CallFile.{Contents, Played, contentsOf, fileOf, answersOf, bytesLeft, wholeRefused, wholeAnswer, wholeSize, wholeAnswers, wholeBytes}
 use Rattle.rules.specs.declared.Book.{Book}
 use Rattle.laws.specs.Accepted.{may-create}
-use Rattle.laws.specs.ReadBack.{stored-empty, created-fits}
+use Rattle.laws.specs.Fitting.{stored-empty, created-fits}
 use Rattle.history.specs.Histories.{made}
 use Rattle.history.specs.Lent.{AllFit}
 use Rattle.history.specs.Steps.{empty-good}

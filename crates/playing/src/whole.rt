@@ -11,7 +11,7 @@ use callfile::other_version;
 use callfile::record_at;
 use house::create;
 ghost use mathlib.Core.Path.{_≡_};
-ghost use Prim.Native.Nat.{_+_, _≤_};
+ghost use Prim.Native.Nat.{_≤_};
 ghost use lib.ListN.{length};
 ghost use Rattle.fields.specs.Field.{stored};
 ghost use Rattle.rules.specs.Layout.{bookLength, bookOf, bytesOf};

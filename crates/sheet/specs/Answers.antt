@@ -2,7 +2,7 @@
 use mathlib.Core.Path.{_≡_, refl, sym, ap, ap₂, _∙_}
 use mathlib.Core.Bool.{Bool, true, not, _||_}
 use mathlib.Core.List.{List, [], _∷_, _++_, map, append-assoc}
-use Prim.Native.Nat.{ℕ, zero, suc, _+_, _*_, _-_, _^_, _≤_, _<_}
+use Prim.Native.Nat.{ℕ, suc, _+_, _*_, _-_, _^_, _≤_, _<_}
 use native.Mathlib.Omega.{arith}
 use native.Mathlib.Numerals.{add-one}
 use lib.Dec.{eqb, ltb}
@@ -16,7 +16,7 @@ use Rattle.rules.specs.Sheet.{answerLine, answerLines}
 use Rattle.rules.specs.declared.Line.{Line}
 use Rattle.rules.specs.declared.Line.the-variants.{Refusal, Place}
 use Rattle.laws.specs.Cases.{by-test, and-hold, cond-yes, cond-no}
-use Rattle.laws.specs.All.{all-cons}
+use Rattle.laws.specs.All.{all-cons, from-length}
 use Rattle.sheet_laws.specs.AnswersFit.{Fits, AllFit, fit-none, fit-more}
 use Rattle.sheet_laws.specs.AnswerWidths.{few-answers}
 
@@ -142,14 +142,9 @@ line-refusal i number figure z n = cond-no _ _ (ne-eqb number 0 z) ∙ cond-no _
 
 -- ── they are few ──
 
-length-from : (i n : ℕ) → length (from i n) ≡ n
-unfolding from
-length-from i zero = refl
-length-from i (suc n) = ap suc (length-from (suc i) n)
-
 length-answers : (count : ℕ) (bs : List ℕ) → length (answersIn count bs) ≡ count
 unfolding answersIn
-length-answers count bs = length-map (from 0 count) (answerAt bs) ∙ length-from 0 count
+length-answers count bs = length-map (from 0 count) (answerAt bs) ∙ from-length 0 count
 
 pub few-lines : (count : ℕ) (bs : List ℕ) → length (answerLines 0 (answersIn count bs)) ≤ count
 few-lines count bs = omega (arith, few-answers 0 (answersIn count bs), length-answers count bs)

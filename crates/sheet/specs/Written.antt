@@ -7,7 +7,7 @@ use native.Mathlib.Nat.{add-zero}
 use native.Mathlib.Omega.{arith}
 use lib.ListN.{length, length-append}
 use Rattle.fields.specs.Field.{stored}
-use Rattle.fields.specs.FieldLaws.{after, stored-none, length-stored}
+use Rattle.fields.specs.FieldLaws.{after, stored-none}
 use Rattle.rules.specs.Words.{each}
 use Rattle.rules.specs.Sheet.{textOf}
 use Rattle.rules.specs.declared.Line.{Line}
@@ -62,11 +62,6 @@ unfolding reached
 reach-of s r ls p n = λ i. record { place = p i; lines = n i }
 
 -- ── what stands in the buffer ──
-
-pub length-put : (w : Bool) (bs : List ℕ) (at : ℕ) (xs : List ℕ) → length (putIf w bs at xs) ≡ length bs
-unfolding putIf
-length-put true bs at xs = length-stored bs at xs
-length-put false bs at xs = refl
 
 put-none : (w : Bool) (bs : List ℕ) (at : ℕ) → bs ≡ putIf w bs at []
 unfolding putIf

@@ -6,13 +6,12 @@ use mathlib.Core.Option.{Option, some, none}
 use Prim.Native.Nat.{ℕ, zero, suc, _+_, _*_, _^_, _≤_, _<_}
 use native.Mathlib.Omega.{arith}
 use lib.Dec.{eqb, leb, ltb}
-use lib.IntN.{natAbs}
 use lib.ListN.{length, drop, length-take, length-drop}
 use borrow.Author.Tests.{ne-eqb, eqb-true, ltb-true, le-leb, leb-true, not-false}
 use Rattle.units.specs.Units.{mostShares}
 use Rattle.rules.specs.Words.{all, total, Test, first}
 use Rattle.rules.specs.Bounds.{mostFile}
-use Rattle.rules.specs.Book.{emptyBook, openOf, quantityOf}
+use Rattle.rules.specs.Book.{emptyBook, openOf}
 use Rattle.rules.specs.Sound.{sizesFit, sound}
 use Rattle.rules.specs.Run.{sharesMoved}
 use Rattle.rules.specs.Calls.{Call, enter, amend, exclude, roll, deposit, withdraw, run, fieldTests, holdingTests, tests, figure, answer}
@@ -20,10 +19,10 @@ use Rattle.rules.specs.Records.{Record, create, call, unreadable, lengthOf, fro
 use Rattle.rules.specs.CallFile.{Answer, Placed, Contents, isUnreadable, recordsFrom, behindVersion, recordsIn, before, contents, contentsOf, answered, left, played, playedFrom, nineteen, fileOf}
 use Rattle.rules.specs.declared.Book.{Book}
 use Rattle.rules.specs.declared.Position.{Position}
-use Rattle.laws.specs.Cases.{by-test, both-hold, and-hold, cond-yes, cond-no}
+use Rattle.laws.specs.Cases.{by-test, and-hold, cond-yes, cond-no}
 use Rattle.laws.specs.All.{all-cons}
 use Rattle.laws.specs.Accepted.{passed}
-use Rattle.laws.specs.SoundParts.{sound-parts}
+use Rattle.laws.specs.SoundParts.{sound-parts, shares-fit}
 use Rattle.laws.specs.SoundRun.{sound-runnable}
 use Rattle.laws.specs.Deliveries.{moved-is}
 use Rattle.laws.specs.RunShares.{wanted-is}
@@ -71,16 +70,12 @@ number-fits : (k : Book) (c : Call) → answer k c < 100
 unfolding answer
 number-fits k c = first-below ((not (sound k), 1) ∷ tests k c) (tests-below k c)
 
-size-fits : (p : Position) → sizesFit p ≡ true → natAbs (quantityOf p) ≤ mostShares
-unfolding sizesFit
-size-fits p e = leb-true (natAbs (quantityOf p)) mostShares (both-hold (leb (natAbs (quantityOf p)) mostShares) _ e .0)
-
 wants-within : (d s : ℕ) (ps : List Position) → all sizesFit ps ≡ true → total (wants d s) ps ≤ length ps * mostShares
 unfolding total
 wants-within d s [] a = omega arith
 wants-within d s (p ∷ ps) a =
     let b = all-cons sizesFit p ps a in
-    omega (arith, wants-size d s p, size-fits p (b .0), wants-within d s ps (b .1))
+    omega (arith, wants-size d s p, shares-fit p (b .0), wants-within d s ps (b .1))
 
 moved-fits : (k : Book) (s : ℕ) → sound k ≡ true → sharesMoved k s < 2 ^ 64
 unfolding openOf

@@ -13,7 +13,7 @@ use Rattle.units.specs.Units.{mils, mostShares, mostMils}
 use Rattle.rules.specs.Words.{all, each, from}
 use Rattle.rules.specs.Bounds.{accounts, currencies, everyAccount, everyCurrency, lastDay, mostRecords}
 use Rattle.rules.specs.Book.{quantityOf, moneyOf, isZero, dueOf, accountOf, securityOf, openOf, chargeAt, chargeOf}
-use Rattle.rules.specs.Sound.{dayFits, isPosition, sizesFit, dueFits, sound}
+use Rattle.rules.specs.Sound.{isPosition, sizesFit, dueFits, sound}
 use Rattle.rules.specs.Sheet.{textOf, openLine, chargeLine, chargeLines, bookLines}
 use Rattle.rules.specs.declared.Position.{Position}
 use Rattle.rules.specs.declared.Book.{Book}
@@ -22,7 +22,7 @@ use Rattle.rules.specs.declared.Line.the-variants.{Day, Charge}
 use Rattle.laws.specs.Cases.{by-test, both-hold, and-hold}
 use Rattle.laws.specs.All.{all-by, all-and, each-all-in, map-all-in, accounts-below, currencies-below}
 use Rattle.laws.specs.Numbers.{due-before, account-below, security-below}
-use Rattle.laws.specs.SoundParts.{sound-parts}
+use Rattle.laws.specs.SoundParts.{sound-parts, day-small}
 use Rattle.laws.specs.SoundRun.{sound-runnable}
 use Rattle.laws.specs.Stakes.{stake-within}
 use Rattle.sheet_laws.specs.Widths.{each-one, length-both, length-each, day-short, open-short, charge-short}
@@ -71,16 +71,12 @@ position-narrow day p d e =
     (omega (arith, security-below p)) (leb-true (natAbs (quantityOf p)) mostShares (q .0)) (leb-true (natAbs (moneyOf p)) mostMils (m .0)))
 
 module _ (k : Book) (ok : sound k ≡ true) where
-  day-small : k .day ≤ lastDay
-  unfolding dayFits
-  day-small = leb-true (k .day) lastDay (sound-parts k ok .day)
-
   open-narrow : all (narrow 47) (map openLine (openOf k)) ≡ true
   open-narrow =
       let c = sound-parts k ok in
       map-all-in (λ p. sizesFit p && dueFits (k .day) p) (narrow 47) openLine (openOf k)
       (all-and sizesFit (dueFits (k .day)) (openOf k) (c .sizes) (c .due-days))
-      (λ p e. position-narrow (k .day) p day-small e)
+      (λ p e. position-narrow (k .day) p (day-small k ok) e)
 
   charge-narrow : (a c : ℕ) → a < accounts → c < currencies → all (narrow 28) (chargeLine k a c) ≡ true
   unfolding chargeLine all chargeOf chargeAt
@@ -108,7 +104,7 @@ module _ (k : Book) (ok : sound k ≡ true) where
         length-both textOf (Day (k .day) ∷ []) (ps ++ cs),
         ap length (each-one textOf (Day (k .day))),
         length-both textOf ps cs,
-        day-short (k .day) (omega (arith, day-small)),
+        day-short (k .day) (omega (arith, day-small k ok)),
         length-each textOf 47 ps open-narrow,
         length-each textOf 28 cs charges-narrow,
         few-open k (sound-runnable k ok .few),

@@ -1,6 +1,6 @@
 -- A text is written in front of a buffer, if it fits; and the whole sheet by the ways that the code takes.
 use mathlib.Core.Path.{_≡_, refl, sym, ap, subst, _∙_}
-use mathlib.Core.Bool.{Bool, true, false, cond, _||_}
+use mathlib.Core.Bool.{Bool, true, false, cond, _||_, or-true, or-false}
 use mathlib.Core.List.{List, _++_}
 use Prim.Native.Nat.{ℕ, _+_, _≤_, _<_}
 use native.Mathlib.Omega.{arith}
@@ -138,14 +138,6 @@ abbrev pub Done : List ℕ → List ℕ → List ℕ → ℕ → ℕ → List �
 Done book file buffer n size book′ buffer′ =
     (n ≡ sheetAnswer book file buffer) × (size ≡ sheetSize book file buffer) × (buffer′ ≡ sheetBytes book file buffer)
     × (book′ ≡ sheetBook book file buffer) × (size ≤ length buffer)
-
-or-true : (b : Bool) → b || true ≡ true
-or-true true = refl
-or-true false = refl
-
-or-false : (b : Bool) → b || false ≡ b
-or-false true = refl
-or-false false = refl
 
 module _ (book file buffer : List ℕ) (n size : ℕ) where
   pub wrong-book : (length book ≡ bookLength → ⊥) → n ≡ 18 → size ≡ 0 → Done book file buffer n size book buffer

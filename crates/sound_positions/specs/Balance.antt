@@ -16,7 +16,7 @@ use Rattle.rules.specs.Sound.{balanced, isDue, dueFits, dueBalanced}
 use Rattle.rules.specs.declared.Position.{Position}
 use Rattle.rules.specs.declared.Book.{Book}
 use Rattle.laws.specs.Cases.{by-test}
-use Rattle.laws.specs.All.{all-cons, securities-below}
+use Rattle.laws.specs.All.{all-cons, securities-below, from-length}
 use Rattle.laws.specs.Keeping.{keep-none, keep-yes, keep-no}
 use Rattle.sound_positions.specs.Summing.{sumAt, sumOf, Summed}
 
@@ -67,10 +67,6 @@ unfolding dueBalanced
 due-by k a = ap (λ (ps : List Position). balanced (keep (isDue (k .day)) (openOf k)) && balanced ps) (keep-later (k .day) (openOf k) a)
 
 -- ── a loop over the securities ──
-from-length : (i n : ℕ) → length (from i n) ≡ n
-unfolding from
-from-length i zero = refl
-from-length i (suc n) = ap suc (from-length (suc i) n)
 
 from-at : (i n j : ℕ) → j < n → getD (from i n) j 0 ≡ i + j
 unfolding from

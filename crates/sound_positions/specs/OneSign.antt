@@ -1,6 +1,6 @@
 -- One pass finds two due records of a pair that disagree exactly if there are two: with the sign seen of each pair beside it.
 use mathlib.Core.Path.{_≡_, refl, sym, ap, ap₂, _∙_}
-use mathlib.Core.Bool.{Bool, true, false, not, cond, _&&_, _||_, Bool·beq, and-false}
+use mathlib.Core.Bool.{Bool, true, false, not, cond, _&&_, _||_, Bool·beq, and-false, and-self-left, and-assoc, and-true, or-true}
 use mathlib.Core.List.{List, [], _∷_}
 use Prim.Native.Nat.{ℕ, _+_, _*_, _<_, _≤_}
 use native.Mathlib.Numerals.{add-one}
@@ -8,14 +8,14 @@ use native.Mathlib.Omega.{arith}
 use lib.Dec.{eqb}
 use lib.ListN.{length, getD, set, take, drop, length-set}
 use lib.Seq.{drop-cons, drop-length, length-take-le, getD-take, getD-set-same, getD-set-other}
-use borrow.Author.Tests.{eq-eqb, ne-eqb, eqb-true, eqb-false}
+use borrow.Author.Tests.{eq-eqb, eqb-true}
 use Rattle.integers.specs.Signs.{isNegative}
 use Rattle.rules.specs.Words.{all, keep}
 use Rattle.rules.specs.Bounds.{accounts, securities}
 use Rattle.rules.specs.Book.{quantityOf, accountOf, securityOf, noPosition}
 use Rattle.rules.specs.Sound.{samePair, agree, oneSign}
 use Rattle.rules.specs.declared.Position.{Position}
-use Rattle.laws.specs.Cases.{by-test, true-false, both-hold, and-hold, cond-yes, cond-no}
+use Rattle.laws.specs.Cases.{by-test, true-false, both-hold, and-hold, cond-yes, cond-no, eqb-swap}
 use Rattle.laws.specs.All.{all-by}
 use Rattle.laws.specs.Keeping.{keep-none, keep-yes, keep-no}
 use Rattle.laws.specs.Numbers.{account-below, security-below}
@@ -52,24 +52,6 @@ noClash seen (p ∷ ps) = fitsSeen seen p && noClash (withSign seen p) ps
 
 -- ── words ──
 
-and-again : (a b : Bool) → a && (a && b) ≡ a && b
-and-again true b = refl
-and-again false b = refl
-
-and-over : (a b c : Bool) → (a && b) && c ≡ a && (b && c)
-and-over true b c = refl
-and-over false b c = refl
-
-and-true : (a : Bool) → a ≡ a && true
-and-true true = refl
-and-true false = refl
-
-eqb-swap : (m n : ℕ) → eqb m n ≡ eqb n m
-eqb-swap m n =
-    by-test (eqb m n)
-    (λ e. e ∙ sym (eq-eqb n m (sym (eqb-true m n e))))
-    (λ e. e ∙ sym (ne-eqb n m (λ f. eqb-false m n e (sym f))))
-
 beq-swap : (a b : Bool) → Bool·beq a b ≡ Bool·beq b a
 beq-swap true true = refl
 beq-swap true false = refl
@@ -79,10 +61,6 @@ beq-swap false false = refl
 beq-same : (a : Bool) → Bool·beq a a ≡ true
 beq-same true = refl
 beq-same false = refl
-
-or-true : (a : Bool) → a || true ≡ true
-or-true true = refl
-or-true false = refl
 
 -- ── the rule, one record more ──
 
@@ -101,7 +79,7 @@ one-sign-cons p ps =
     let a : all (λ x. agree x p && all (agree x) ps) ps ≡ all (agree p) ps && oneSign ps =
     all-two (λ x. agree x p) (λ x. all (agree x) ps) ps
     ∙ ap (λ (b : Bool). b && oneSign ps) (all-same (λ x. agree x p) (agree p) ps (λ x. agree-swap x p)) in
-    rw (agree-self p, a) (and-again (all (agree p) ps) (oneSign ps))
+    rw (agree-self p, a) (and-self-left (all (agree p) ps) (oneSign ps))
 
 -- ── what is seen, one record more ──
 
@@ -130,7 +108,7 @@ module _ (seen : List ℕ) (w : length seen ≡ places) (p : Position) (h : fits
       (λ e. let o : placeOf q ≡ placeOf p → ⊥ =
       λ i. let s = same-place p q (sym i) in
       true-false (and-hold (eq-eqb (accountOf p) (accountOf q) (s .0)) (eq-eqb (securityOf p) (securityOf q) (s .1))) e in
-      rw (getD-set-other seen (placeOf p) (placeOf q) (signOf p) 0 o, e) (and-true (fitsSeen seen q)))
+      rw (getD-set-other seen (placeOf p) (placeOf q) (signOf p) 0 o, e) (sym (and-true (fitsSeen seen q))))
 
 -- The law: nothing clashes exactly if all fit what was seen and no two disagree.
 no-clash : (seen : List ℕ) (ps : List Position) → length seen ≡ places → noClash seen ps ≡ all (fitsSeen seen) ps && oneSign ps
@@ -142,7 +120,7 @@ no-clash seen (p ∷ ps) w =
     by-test (fitsSeen seen p)
     (λ e. let g : all (fitsSeen (withSign seen p)) ps ≡ all (fitsSeen seen) ps && all (agree p) ps =
     all-same (fitsSeen (withSign seen p)) (λ q. fitsSeen seen q && agree p q) ps (fits-step seen w p e) ∙ all-two (fitsSeen seen) (agree p) ps in
-    rw (e, one-sign-cons p ps, ih, g) (and-over (all (fitsSeen seen) ps) (all (agree p) ps) (oneSign ps)))
+    rw (e, one-sign-cons p ps, ih, g) (and-assoc (all (fitsSeen seen) ps) (all (agree p) ps) (oneSign ps)))
     (λ e. rw e)
 
 -- ── the loop: what is left of the first n records of a table, seen so far ──

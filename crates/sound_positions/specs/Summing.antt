@@ -6,11 +6,11 @@ use Prim.Native.Nat.{ℕ, zero, suc, _+_, _*_, _<_, _≤_}
 use native.Mathlib.Nat.{le-of-suc-le-suc}
 use native.Mathlib.Numerals.{add-one}
 use native.Mathlib.Omega.{arith}
-use lib.Dec.{eqb, leb}
+use lib.Dec.{eqb}
 use lib.ListN.{length, getD, set, take, replicate, length-set, length-replicate, getD-replicate}
 use lib.Seq.{take-suc, getD-take, length-take-le, getD-set-same, getD-set-other}
 use lib.IntN.{ℤ, pos, natAbs, _+ℤ_}
-use borrow.Author.Tests.{eqb-true, eqb-false, leb-true}
+use borrow.Author.Tests.{eqb-true, eqb-false}
 use Rattle.integers.specs.Linear.{zlin}
 use Rattle.integers.specs.Sums.{sumBy, sumBy-append}
 use Rattle.units.specs.Units.{mostShares}
@@ -24,6 +24,7 @@ use Rattle.laws.specs.Walks.{all-at}
 use Rattle.laws.specs.Keeping.{keep-append, keep-none, keep-yes, keep-no, keep-all, keep-length}
 use Rattle.laws.specs.Adding.{sumBy-within}
 use Rattle.laws.specs.Numbers.{security-below}
+use Rattle.laws.specs.SoundParts.{shares-fit}
 
 -- ── the sums ──
 
@@ -112,10 +113,6 @@ pub record Room (sums : List ℤ) (p : Position) : Type 0 where
   pub had : natAbs (sumAt sums (securityOf p)) ≤ mostSum
   pub size : natAbs (quantityOf p) ≤ mostShares
 
-size-fits : (p : Position) → sizesFit p ≡ true → natAbs (quantityOf p) ≤ mostShares
-unfolding sizesFit
-size-fits p e = leb-true (natAbs (quantityOf p)) mostShares (both-hold (leb (natAbs (quantityOf p)) mostShares) _ e .0)
-
 all-first : (t : Position → Bool) (l : List Position) (i n : ℕ) → i ≤ n → all t (take n l) ≡ true → all t (take i l) ≡ true
 unfolding all
 all-first t l zero n h a = refl
@@ -130,12 +127,12 @@ module _ (l : List Position) (n i : ℕ) (a : all sizesFit (take n l) ≡ true) 
   within d s =
       let t : Position → Bool = λ p. eqb (securityOf p) s in
       let fits = keep-all t sizesFit (keep d (take i l)) (keep-all d sizesFit (take i l) (all-first sizesFit l i n (omega arith) a)) in
-      omega (arith, sumBy-within sizesFit quantityOf (keep t (keep d (take i l))) mostShares fits size-fits, keep-length t (keep d (take i l)), keep-length d (take i l), length-take-le i l (omega arith))
+      omega (arith, sumBy-within sizesFit quantityOf (keep t (keep d (take i l))) mostShares fits shares-fit, keep-length t (keep d (take i l)), keep-length d (take i l), length-take-le i l (omega arith))
 
   pub room-for : (d : Position → Bool) (sums : List ℤ) → Summed (keep d (take i l)) sums → Room sums (getD l i noPosition)
   room-for d sums e =
       let p = getD l i noPosition in
       record {
         had = rw (e .sum (securityOf p) (security-below p)) (within d (securityOf p));
-        size = size-fits p (rw (getD-take n l i noPosition h) at (all-at sizesFit (take n l) i noPosition a (omega (arith, length-take-le n l w))));
+        size = shares-fit p (rw (getD-take n l i noPosition h) at (all-at sizesFit (take n l) i noPosition a (omega (arith, length-take-le n l w))));
       }

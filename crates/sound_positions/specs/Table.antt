@@ -1,6 +1,6 @@
 -- A table: a loop over the entries in use, and one over the room behind them, and what a test of each says of `all`.
 use mathlib.Core.Path.{_≡_, refl, sym, ap, _∙_}
-use mathlib.Core.Bool.{Bool, true, false, _&&_, and-false}
+use mathlib.Core.Bool.{Bool, true, false, _&&_}
 use mathlib.Core.List.{List, [], _∷_}
 use Prim.Native.Nat.{ℕ, zero, suc, _+_, _<_, _≤_}
 use native.Mathlib.Numerals.{add-one}
@@ -8,13 +8,8 @@ use native.Mathlib.Omega.{arith}
 use lib.ListN.{length, getD, take, drop, replicate}
 use lib.Seq.{getD-take, length-take-le, drop-cons, drop-length}
 use Rattle.rules.specs.Words.{all}
-use Rattle.rules.specs.Bounds.{mostRecords}
-use Rattle.rules.specs.Sound.{recordsFit}
-use Rattle.rules.specs.declared.Book.{Book}
-use Rattle.laws.specs.Cases.{both-hold}
+use Rattle.laws.specs.Cases.{and-mix}
 use Rattle.laws.specs.Walks.{all-fails}
-use borrow.Author.Tests.{leb-true}
-use lib.Dec.{leb}
 
 module _ {A : Type 0} (t : A → Bool) (l : List A) where
   -- ── the first n ──
@@ -62,18 +57,7 @@ all-same t u [] h = refl
 all-same t u (x ∷ l) h = rw (h x, all-same t u l h)
 
 -- two tests of each element are two walks
-and-mix : (a b c d : Bool) → (a && b) && (c && d) ≡ (a && c) && (b && d)
-and-mix true true c d = refl
-and-mix true false c d = sym (and-false c)
-and-mix false b c d = refl
-
 pub all-two : {A : Type 0} (t u : A → Bool) (l : List A) → all (λ x. t x && u x) l ≡ all t l && all u l
 unfolding all
 all-two t u [] = refl
 all-two t u (x ∷ l) = ap (λ (b : Bool). (t x && u x) && b) (all-two t u l) ∙ and-mix (t x) (u x) (all t l) (all u l)
-
--- ── what the first of the tests says, for those that count on it ──
-
-pub records-within : (k : Book) → recordsFit k ≡ true → k .records ≤ mostRecords
-unfolding recordsFit
-records-within k e = leb-true (k .records) mostRecords (both-hold (leb (k .records) mostRecords) _ e .0)

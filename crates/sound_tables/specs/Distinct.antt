@@ -1,6 +1,6 @@
 -- Distinct numbers, found out by a flag for each number that has occurred.
 use mathlib.Core.Path.{_≡_, refl, sym, ap, _∙_}
-use mathlib.Core.Bool.{Bool, true, false, not, _||_, and-false}
+use mathlib.Core.Bool.{Bool, true, false, not, _||_, and-false, or-false, or-true}
 use mathlib.Core.List.{List, [], _∷_, _++_}
 use mathlib.Core.Logic.{dite}
 use Prim.Native.Nat.{ℕ, zero, suc, _+_, _<_, _≤_}
@@ -14,20 +14,12 @@ use lib.Seq.{take-suc, take-all}
 use borrow.Author.Tests.{eq-eqb, ne-eqb}
 use Rattle.rules.specs.Words.{all, any}
 use Rattle.rules.specs.Sound.{distinct}
-use Rattle.laws.specs.Cases.{by-test, both-hold, and-hold, neither, true-false}
+use Rattle.laws.specs.Cases.{by-test, both-hold, and-hold, neither, true-false, or-step}
 use Rattle.sound_tables.specs.Flags.{flagAt, raised, all-down, raised-long, raised-up, raised-other}
 
 -- the number is among some
 abbrev pub among : ℕ → List ℕ → Bool
 among n l = any (λ m. eqb m n) l
-
-or-step : (b p q r : Bool) → p ≡ q || r → b || p ≡ (b || q) || r
-or-step true p q r e = refl
-or-step false p q r e = e
-
-or-false : (b : Bool) → b || false ≡ b
-or-false true = refl
-or-false false = refl
 
 among-append : (n : ℕ) (l m : List ℕ) → among n (l ++ m) ≡ among n l || among n m
 unfolding any
@@ -108,11 +100,7 @@ flagged-more flags ns i x h e b f = record {
   long = raised-long flags (f .long) x b;
   flag = λ n k. dite (ℕ-discrete n x)
       (λ s. ap (flagAt (raised flags x)) s ∙ raised-up flags (f .long) x b
-      ∙ sym (among-more n x ns i h e ∙ rw (eq-eqb x n (sym s)) (or-yes (among n (take i ns)))))
+      ∙ sym (among-more n x ns i h e ∙ rw (eq-eqb x n (sym s)) (or-true (among n (take i ns)))))
       (λ d. raised-other flags (f .long) x b n d ∙ f .flag n k
       ∙ sym (among-more n x ns i h e ∙ rw (ne-eqb x n (λ s. d (sym s))) (or-false (among n (take i ns)))));
 }
-  where
-    or-yes : (a : Bool) → a || true ≡ true
-    or-yes true = refl
-    or-yes false = refl

@@ -11,7 +11,7 @@ use lib.Dec.{eqb}
 use lib.ListN.{length, getD, take, drop, set, replicate, length-set, length-replicate, getD-replicate, drop-of-length-le}
 use lib.Seq.{drop-cons, getD-set-same, getD-set-other}
 use borrow.Author.Tests.{eq-eqb, ne-eqb}
-use Rattle.laws.specs.Cases.{cond-yes, cond-no}
+use Rattle.laws.specs.Cases.{cond-yes, cond-no, and-step}
 
 -- ── a test ──
 
@@ -19,10 +19,6 @@ use Rattle.laws.specs.Cases.{cond-yes, cond-no}
 unfoldable pub allFrom : {A : Type 0} → (ℕ → A → Bool) → ℕ → List A → Bool
 allFrom t j [] = true
 allFrom t j (x ∷ l) = t j x && allFrom t (suc j) l
-
-and-step : (b p q r : Bool) → p ≡ q && r → b && p ≡ (b && q) && r
-and-step true p q r e = e
-and-step false p q r e = refl
 
 module _ {A : Type 0} (t : ℕ → A → Bool) where
   pub from-split : (j m : ℕ) (l : List A) → allFrom t j l ≡ allFrom t j (take m l) && allFrom t (j + m) (drop m l)
@@ -56,13 +52,6 @@ amountsAt place amount x j [] = 0
 amountsAt place amount x j (a ∷ l) = cond (eqb (place j a) x) (amount a) 0 + amountsAt place amount x (suc j) l
 
 module _ {A : Type 0} (place : ℕ → A → ℕ) (amount : A → ℕ) where
-  pub amounts-split : (x j m : ℕ) (l : List A)
-      → amountsAt place amount x j l ≡ amountsAt place amount x j (take m l) + amountsAt place amount x (j + m) (drop m l)
-  unfolding amountsAt
-  amounts-split x j zero l = let z : j + 0 ≡ j = omega arith in rw z (omega arith)
-  amounts-split x j (suc m) [] = refl
-  amounts-split x j (suc m) (a ∷ l) = let z : j + suc m ≡ suc j + m = omega arith in rw z (omega (arith, amounts-split x (suc j) m l))
-
   amounts-step : (x i : ℕ) (l : List A) (d : A) → i < length l
       → amountsAt place amount x i (drop i l) ≡ cond (eqb (place i (getD l i d)) x) (amount (getD l i d)) 0 + amountsAt place amount x (i + 1) (drop (i + 1) l)
   unfolding amountsAt

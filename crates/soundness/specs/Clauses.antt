@@ -1,6 +1,6 @@
 -- The sentences of "A sound book" in groups, as the code tests them: the position table's, and all of them; and the length of the book.
 use mathlib.Core.Path.{_≡_, refl, sym, ap, _∙_}
-use mathlib.Core.Bool.{Bool, true, false, not, _&&_}
+use mathlib.Core.Bool.{Bool, true, false, not, _&&_, and-assoc}
 use mathlib.Core.List.{List}
 use Prim.Native.Nat.{ℕ, _≤_}
 use lib.Dec.{leb}
@@ -33,10 +33,6 @@ abbrev pub recordsListed : Book → Bool
 recordsListed k = all (λ p. not (unlisted k (securityOf p))) (openOf k)
 
 -- ── the groups make the whole ──
-
-and-assoc : (a b c : Bool) → (a && b) && c ≡ a && (b && c)
-and-assoc true b c = refl
-and-assoc false b c = refl
 
 -- the order of the records is tested behind the room
 regroup-positions : (count ascent blank each together rest : Bool)

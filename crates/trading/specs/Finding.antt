@@ -1,6 +1,6 @@
 -- What a loop that looks for an element needs of `any`: nothing found yet, not this one either, found, none at all.
 use mathlib.Core.Path.{_≡_, refl, sym, ap, _∙_}
-use mathlib.Core.Bool.{Bool, true, false, _||_}
+use mathlib.Core.Bool.{Bool, true, false, _||_, or-true}
 use mathlib.Core.List.{List, [], _∷_, _++_}
 use Prim.Native.Nat.{ℕ, zero, suc, _+_, _<_, _≤_}
 use native.Mathlib.Nat.{le-of-suc-le-suc}
@@ -9,14 +9,7 @@ use native.Mathlib.Omega.{arith}
 use lib.ListN.{length, getD, take}
 use lib.Seq.{take-suc, take-all, getD-take, length-take-le}
 use Rattle.rules.specs.Words.{any}
-
-or-step : (b p q r : Bool) → p ≡ q || r → b || p ≡ (b || q) || r
-or-step true p q r e = refl
-or-step false p q r e = e
-
-or-true : (b : Bool) → b || true ≡ true
-or-true true = refl
-or-true false = refl
+use Rattle.laws.specs.Cases.{or-step}
 
 module _ {A : Type 0} (t : A → Bool) where
   any-append : (l m : List A) → any t (l ++ m) ≡ any t l || any t m

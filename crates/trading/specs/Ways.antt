@@ -24,13 +24,6 @@ answer (stop {n = n} {ts = ts} e) = sym (ap (λ (b : Bool). cond b n (first ts))
 answer (pass {n = n} {ts = ts} e w) = answer w ∙ sym (ap (λ (b : Bool). cond b n (first ts)) e)
 
 -- one test of two parts
-pub either-left : (a b : Bool) → a ≡ true → a || b ≡ true
-either-left a b e = rw e
-
-pub either-right : (a b : Bool) → b ≡ true → a || b ≡ true
-either-right true b e = refl
-either-right false b e = e
-
 pub both-fail : (a b : Bool) → a ≡ false → b ≡ false → a || b ≡ false
 both-fail a b e f = rw (e, f)
 

@@ -3,7 +3,6 @@
 use crate::Mils;
 use exact::Rounded;
 ghost use mathlib.Core.Path.{_≡_};
-ghost use lib.IntN.{ℤ};
 ghost use Rattle.exact.specs.Rounding.{capped};
 ghost use Rattle.units.specs.Units.{milsOf};
 ghost use Rattle.units.specs.Conversion.{favourableOf, unfavourableOf};

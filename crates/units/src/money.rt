@@ -4,7 +4,7 @@ use crate::Whole;
 ghost use mathlib.Core.Path.{_≡_};
 ghost use Prim.Native.Nat.{_+_, _≤_, _<_, _^_};
 ghost use lib.Dec.{eqb};
-ghost use lib.IntN.{ℤ, natAbs, _+ℤ_, _-ℤ_};
+ghost use lib.IntN.{natAbs, _+ℤ_, _-ℤ_};
 ghost use Rattle.integers.specs.Signs.{isNegative, signed};
 ghost use Rattle.integers.specs.Bits.{bitsOf, valueOf};
 ghost use Rattle.units.specs.Units.{milsOf};

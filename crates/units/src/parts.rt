@@ -3,7 +3,7 @@ use crate::Mils;
 use crate::Shares;
 ghost use mathlib.Core.Path.{_≡_};
 ghost use Prim.Native.Nat.{_*_, _/_, _≤_};
-ghost use lib.IntN.{ℤ, natAbs};
+ghost use lib.IntN.{natAbs};
 ghost use Rattle.units.specs.Units.{sharesOf, milsOf};
 ghost use Rattle.units.specs.Part.{partOf};
 ghost use Rattle.units.specs.PartLaws.{PartAsks, PortionAsks};

@@ -1,8 +1,6 @@
 -- `calls_run::same` meets its contract: the loop ends, inside both slices. Assumes nothing.
 use borrow.Author.Needs.{needs}
-use mathlib.Core.Path.{_≡_}
 use Prim.Native.Nat.{_≤_, _-_}
-use lib.ListN.{length}
 use Rattle.calls_run.proofs.same.Statement.{statement}
 use Rattle.calls_run.proofs.same.Tie as tie
 

@@ -7,7 +7,7 @@ use Rattle.rules.specs.Layout.{bookOf}
 use Rattle.rules.specs.Marks.{Terms, terms, markedOf, lacksPrice}
 use Rattle.rules.specs.declared.Book.{Book}
 use Rattle.laws.specs.SoundParts.{sound-parts}
-use Rattle.sound_positions.specs.Table.{records-within}
+use Rattle.laws.specs.Blanks.{records-few}
 use Rattle.marking.specs.SoundMarks.{termsTests}
 use Rattle.marking.specs.Summing.{sum-priced, lacks-priced}
 use Rattle.marking.specs.Passing.{Passed, all-passed}
@@ -45,7 +45,7 @@ returns c = refused-terms _ _ _ _ (c .before .terms-refusal .ensures) (c .if1 .t
 has-unpriced-requires : tie.Need-has-unpriced-requires
 has-unpriced-requires c κs =
     let s = start (c .before) in
-    (s .pre .0, records-within _ (sound-parts _ (s .pre .1) .records), right c .fair .tables)
+    (s .pre .0, records-few _ (sound-parts _ (s .pre .1) .records), right c .fair .tables)
 
 returns-2 : tie.Need-returns-2
 returns-2 c =

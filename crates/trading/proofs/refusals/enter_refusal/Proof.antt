@@ -6,7 +6,8 @@ use lib.Dec.{eqb, leb}
 use Rattle.rules.specs.Bounds.{mostTrades}
 use Rattle.rules.specs.Layout.{bookOf}
 use Rattle.rules.specs.Calls.{tests, answerSound}
-use Rattle.trading.specs.Ways.{through, stop, pass, answer, fault-first, fine-first, either-left, either-right, both-fail}
+use Rattle.laws.specs.Cases.{or-left, or-right}
+use Rattle.trading.specs.Ways.{through, stop, pass, answer, fault-first, fine-first, both-fail}
 use Rattle.trading.proofs.refusals.enter_refusal.Statement.{statement}
 use Rattle.trading.proofs.refusals.enter_refusal.Tie as tie
 
@@ -21,7 +22,7 @@ returns-2 : tie.Need-returns-2
 unfolding answerSound tests
 returns-2 c =
     fine-first _ _ _ _ _ (c .before .before .before .field-refusal .ensures) (c .before .before .if1 .left)
-    (answer (stop (either-left _ _ (eq-eqb _ _ (c .if2 .taken)))))
+    (answer (stop (or-left _ (eq-eqb _ _ (c .if2 .taken)))))
 
 is-used-requires : tie.Need-is-used-requires
 is-used-requires c κs = search needs
@@ -30,7 +31,7 @@ returns-3 : tie.Need-returns-3
 unfolding answerSound tests
 returns-3 c =
     fine-first _ _ _ _ _ (c .before .before .before .before .before .field-refusal .ensures) (c .before .before .before .before .if1 .left)
-    (answer (stop (either-right (eqb (c .before .before .before .before .before .before .before .args .t .number) 0) _ (sym (c .before .is-used .ensures) ∙ c .if3 .taken))))
+    (answer (stop (or-right (eqb (c .before .before .before .before .before .before .before .args .t .number) 0) (sym (c .before .is-used .ensures) ∙ c .if3 .taken))))
 
 full : (c : tie.After-entries-at) → leb mostTrades (bookOf (c .before .before .before .before .before .before .before .before .args .b .now) .entries) ≡ leb mostTrades (c .entries-at .result)
 full c = ap (leb mostTrades) (sym (c .entries-at .ensures))
