@@ -1,5 +1,5 @@
--- A book's bytes with one entry stored anew are those of the book with that entry; and so with the list and its count, the day, and all
--- charges set to zero.
+-- A book's bytes with one entry stored anew are those of the book with that entry; and so with the list and its count, the day, all charges
+-- set to zero, and the list emptied.
 use mathlib.Core.Path.{_≡_, refl, sym, ap, ap₂, _∙_}
 use mathlib.Core.List.{List, [], _∷_, _++_}
 use Prim.Native.Nat.{ℕ, zero, suc, _+_, _*_, _-_, _<_, _≤_}
@@ -15,10 +15,10 @@ use Rattle.fields.specs.Codec.{number, writeRows, write-set, write-long}
 use Rattle.units.specs.Units.{mils}
 use Rattle.units.specs.declared.Mils.{Mils}
 use Rattle.rules.specs.Bounds.{accounts, securities}
-use Rattle.rules.specs.Book.{withHoldings, withCharges, withDay}
+use Rattle.rules.specs.Book.{noTrade, withList, withHoldings, withCharges, withDay}
 use Rattle.rules.specs.Layout.{position, amount, trade, bookLength, bookOf, bytesOf}
 use Rattle.rules.specs.LayoutLaws.{bytes-book}
-use Rattle.rules.specs.Roll.{uncharged}
+use Rattle.rules.specs.Roll.{uncharged, emptied}
 use Rattle.rules.specs.declared.Trade.{Trade}
 use Rattle.rules.specs.declared.Book.{Book}
 use Rattle.book.specs.Places.{dayPlace, holdingsPlace, chargesPlace, entriesPlace, tradesPlace}
@@ -32,12 +32,12 @@ sets-ahead (v ∷ vs) p q i h =
     ap (λ (l : List ℕ). sets l (suc i) vs) (set-append-left p q i v (omega arith))
     ∙ sets-ahead vs (set p i v) q (suc i) (omega (arith, length-set p i v))
 
-stored-ahead : (p q vs : List ℕ) (i : ℕ) → i + length vs ≤ length p → stored (p ++ q) i vs ≡ stored p i vs ++ q
+pub stored-ahead : (p q vs : List ℕ) (i : ℕ) → i + length vs ≤ length p → stored (p ++ q) i vs ≡ stored p i vs ++ q
 unfolding stored
 stored-ahead p q vs i h = sets-ahead vs p q i h
 
 -- the tables of a book that was read
-tables : (bs : List ℕ) → Tables (bookOf bs)
+pub tables : (bs : List ℕ) → Tables (bookOf bs)
 tables bs =
     record { codes = codes-long bs; positions = positions-long bs; holdings = holdings-long bs; charges = charges-long bs; trades = trades-long bs }
 
@@ -133,6 +133,21 @@ list-changed bs l₁ l₂ n ts h l long e f =
     after bs l₁ l₂ entriesPlace tradesPlace (digits 2 n) (writeRows trade ts) e f (omega (arith, length-digits 2 n))
     ∙ ap (λ (b : List ℕ). stored b entriesPlace (digits 2 n ++ writeRows trade ts)) (sym (bytes-book bs h l))
     ∙ table-change (bookOf bs) n ts (tables bs) long
+
+-- a row of zeros is bytes of 0
+zero-trades : (n : ℕ) → writeRows trade (replicate n noTrade) ≡ replicate (n * 13) 0
+unfolding writeRows digits
+zero-trades zero = refl
+zero-trades (suc n) =
+    let e : suc n * 13 ≡ suc (suc (suc (suc (suc (suc (suc (suc (suc (suc (suc (suc (suc (n * 13))))))))))))) = omega arith in
+    rw (zero-trades n, e) refl
+
+pub list-cleared : (bs : List ℕ) → Bytes bs → length bs ≡ bookLength → stored bs entriesPlace (replicate 3_330 0) ≡ bytesOf (emptied (bookOf bs))
+unfolding emptied withList withTable digits
+list-cleared bs h l =
+    let none = replicate 256 noTrade in
+    ap₂ (λ (b d : List ℕ). stored b entriesPlace (0 ∷ 0 ∷ d)) (sym (bytes-book bs h l)) (sym (zero-trades 256))
+    ∙ table-change (bookOf bs) 0 none (tables bs) (length-replicate 256 noTrade)
 
 -- ── the day ──
 

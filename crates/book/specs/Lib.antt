@@ -4,3 +4,4 @@ pub mod Reading
 pub mod Views
 pub mod Writing
 pub mod Changing
+pub mod Replacing

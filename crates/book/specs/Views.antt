@@ -59,6 +59,10 @@ pub codes-view : (l : List ℕ) (t : List ℕ) → t ≡ readRows (number 1) 32 
 unfolding bookOf
 codes-view l t e = e
 
+pub positions-view : (l : List ℕ) (t : List Position) → t ≡ readRows position 1_024 (drop positionsPlace l) → t ≡ bookOf l .positions
+unfolding bookOf
+positions-view l t e = e ∙ ap (readRows position 1_024) (sym (after-records l))
+
 pub trades-view : (l : List ℕ) (t : List Trade) → t ≡ readRows trade 256 (drop tradesPlace l) → t ≡ bookOf l .trades
 unfolding bookOf
 trades-view l t e = e ∙ ap (readRows trade 256) (sym (after-entries l))

@@ -4,20 +4,23 @@ use crate::layout::CHARGE_BYTES;
 use crate::layout::CHARGES;
 use crate::layout::ENTRIES;
 use crate::word::word;
+use crate::zeros::put_zeros;
 use fields::put;
 use units::Mils;
 use units::Whole;
 ghost use mathlib.Core.Path.{_≡_};
-ghost use Prim.Native.Nat.{_*_, _-_, _<_, _≤_};
-ghost use lib.ListN.{length, getD, drop, replicate};
+ghost use Prim.Native.Nat.{_*_, _<_};
+ghost use lib.ListN.{length, getD, set, drop};
 ghost use lib.IntN.{pos};
 ghost use Rattle.fields.specs.Field.{stored};
 ghost use Rattle.fields.specs.Codec.{readRows, writeRows};
 ghost use Rattle.units.specs.Units.{mils};
 ghost use Rattle.rules.specs.Bounds.{accounts, currencies};
-ghost use Rattle.rules.specs.Layout.{amount, bookLength, bookOf, bytesOf};
+ghost use Rattle.rules.specs.Book.{withCharges};
+ghost use Rattle.rules.specs.Layout.{amount, bookLength, bookOf};
 ghost use Rattle.rules.specs.Roll.{uncharged};
 ghost use Rattle.book.specs.Places.{chargesPlace};
+ghost use Rattle.book.specs.Replacing.{Holds};
 
 // One charge where it stands.
 pub fn charge_at(b: &[u8], i: usize) -> Mils
@@ -25,6 +28,14 @@ pub fn charge_at(b: &[u8], i: usize) -> Mils
     ensures { λ r. ⌜ r ≡ getD (bookOf (now (b .entry)) .charges) i (mils (pos 0)) ⌝ }
 {
     Mils::from_bits(word(b, CHARGES + i * CHARGE_BYTES))
+}
+
+// One charge is changed where it stands: every other byte is left as it was.
+pub fn put_charge(b: &mut [u8], i: usize, m: Mils)
+    requires { ⌜ (length (now b) ≡ bookLength) × (i < accounts * currencies) ⌝ }
+    ensures { λ _. ⌜ Holds (now (b .exit)) (withCharges (bookOf (now (b .entry))) (set (bookOf (now (b .entry)) .charges) i m)) ⌝ }
+{
+    put(b, CHARGES + i * CHARGE_BYTES, 8, m.bits());
 }
 
 pub(crate) fn charges_at(b: &[u8]) -> [Mils; 256]
@@ -53,23 +64,11 @@ pub(crate) fn put_charges(t: [Mils; 256], b: &mut [u8])
     }
 }
 
-// Bytes of 0 from one place up to another.
-fn put_zeros(b: &mut [u8], from: usize, to: usize)
-    requires { ⌜ (from ≤ to) × (to ≤ length (now b)) ⌝ }
-    ensures { λ _. ⌜ now (b .exit) ≡ stored (now (b .entry)) from (replicate (to - from) 0) ⌝ }
-{
-    let mut i = from;
-    while i < to {
-        b[i] = 0;
-        i += 1;
-    }
-}
-
 // All charges are set to zero where they stand: an amount of 0 is 8 bytes of 0, and the table ends where the count of
 // trades begins.
 pub fn clear_charges(b: &mut [u8])
     requires { ⌜ length (now b) ≡ bookLength ⌝ }
-    ensures { λ _. ⌜ now (b .exit) ≡ bytesOf (uncharged (bookOf (now (b .entry)))) ⌝ }
+    ensures { λ _. ⌜ Holds (now (b .exit)) (uncharged (bookOf (now (b .entry)))) ⌝ }
 {
     put_zeros(b, CHARGES, ENTRIES);
 }

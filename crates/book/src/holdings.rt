@@ -10,8 +10,9 @@ ghost use Rattle.fields.specs.Field.{stored};
 ghost use Rattle.fields.specs.Codec.{number, readRows, writeRows};
 ghost use Rattle.rules.specs.Bounds.{accounts, securities};
 ghost use Rattle.rules.specs.Book.{withHoldings};
-ghost use Rattle.rules.specs.Layout.{bookLength, bookOf, bytesOf};
+ghost use Rattle.rules.specs.Layout.{bookLength, bookOf};
 ghost use Rattle.book.specs.Places.{holdingsPlace};
+ghost use Rattle.book.specs.Replacing.{Holds};
 
 // One holding where it stands.
 pub fn holding_at(b: &[u8], i: usize) -> u64
@@ -24,7 +25,7 @@ pub fn holding_at(b: &[u8], i: usize) -> u64
 // The holding is changed where it stands: every other byte is left as it was.
 pub fn put_holding(b: &mut [u8], i: usize, v: u64)
     requires { ⌜ (length (now b) ≡ bookLength) × (i < accounts * securities) ⌝ }
-    ensures { λ _. ⌜ now (b .exit) ≡ bytesOf (withHoldings (bookOf (now (b .entry))) (set (bookOf (now (b .entry)) .holdings) i v)) ⌝ }
+    ensures { λ _. ⌜ Holds (now (b .exit)) (withHoldings (bookOf (now (b .entry))) (set (bookOf (now (b .entry)) .holdings) i v)) ⌝ }
 {
     put(b, HOLDINGS + i * HOLDING_BYTES, 8, v);
 }

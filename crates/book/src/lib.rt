@@ -1,6 +1,7 @@
-// The book, from lent bytes to a value and back (document 01: the layout of docs/BOOK.md). A call reads the whole book,
-// works on the value and writes it back; or it reads and writes single parts where they stand, and leaves the other
-// bytes alone. Each table has a module, with what reads it and what writes it.
+// The book in lent bytes (document 01: the layout of docs/BOOK.md). A call reads and writes single parts where they stand,
+// and leaves the other bytes alone; a new book is stored whole, and a sheet loads a whole book as a value and stores
+// it. Each table
+// has a module, with what reads it and what writes it.
 mod charges;
 mod codes;
 mod holdings;
@@ -8,9 +9,11 @@ mod layout;
 mod positions;
 mod trades;
 mod word;
+mod zeros;
 
 pub use charges::charge_at;
 pub use charges::clear_charges;
+pub use charges::put_charge;
 pub use codes::code_at;
 pub use codes::codes_of;
 use fields::get;
@@ -22,7 +25,10 @@ use layout::DAY;
 use layout::ENTRIES;
 use layout::RECORDS;
 pub use positions::position_at;
+pub use positions::positions_of;
+pub use positions::put_position;
 use rules::Book;
+pub use trades::clear_list;
 pub use trades::put_list;
 pub use trades::trade_at;
 pub use trades::trades_of;
@@ -30,6 +36,7 @@ ghost use mathlib.Core.Path.{_≡_};
 ghost use lib.ListN.{length};
 ghost use Rattle.rules.specs.Book.{withDay};
 ghost use Rattle.rules.specs.Layout.{bookOf, bytesOf, bookLength};
+ghost use Rattle.book.specs.Replacing.{Holds, withRows};
 
 // The day where it stands.
 pub fn day_at(b: &[u8]) -> u16
@@ -42,7 +49,7 @@ pub fn day_at(b: &[u8]) -> u16
 // The day is changed where it stands: every other byte is left as it was.
 pub fn put_day(b: &mut [u8], day: u16)
     requires { ⌜ length (now b) ≡ bookLength ⌝ }
-    ensures { λ _. ⌜ now (b .exit) ≡ bytesOf (withDay (bookOf (now (b .entry))) day) ⌝ }
+    ensures { λ _. ⌜ Holds (now (b .exit)) (withDay (bookOf (now (b .entry))) day) ⌝ }
 {
     put(b, DAY, 2, day as u64);
 }
@@ -53,6 +60,14 @@ pub fn records_at(b: &[u8]) -> u16
     ensures { λ r. ⌜ r ≡ bookOf (now (b .entry)) .records ⌝ }
 {
     get(b, RECORDS, 2) as u16
+}
+
+// The count of records is changed where it stands: every other byte is left as it was.
+pub fn put_records(b: &mut [u8], records: u16)
+    requires { ⌜ length (now b) ≡ bookLength ⌝ }
+    ensures { λ _. ⌜ Holds (now (b .exit)) (withRows (bookOf (now (b .entry))) records (bookOf (now (b .entry)) .positions)) ⌝ }
+{
+    put(b, RECORDS, 2, records as u64);
 }
 
 pub fn entries_at(b: &[u8]) -> u16

@@ -10,13 +10,14 @@ use units::Shares;
 use units::Whole;
 ghost use mathlib.Core.Path.{_≡_};
 ghost use Prim.Native.Nat.{_+_, _<_, _≤_};
-ghost use lib.ListN.{length, getD, drop};
+ghost use lib.ListN.{length, getD, set, drop};
 ghost use Rattle.fields.specs.Field.{stored};
 ghost use Rattle.fields.specs.Codec.{readRows, writeRows};
 ghost use Rattle.rules.specs.Bounds.{mostRecords};
 ghost use Rattle.rules.specs.Book.{noPosition};
 ghost use Rattle.rules.specs.Layout.{position, bookLength, bookOf};
 ghost use Rattle.book.specs.Places.{positionsPlace};
+ghost use Rattle.book.specs.Replacing.{Holds, withRows};
 
 // The row that begins at a byte: its number in 4 bytes, its shares and its money in 8 each.
 fn row_at(b: &[u8], at: usize) -> Position
@@ -60,8 +61,16 @@ pub(crate) fn positions_at(b: &[u8]) -> [Position; 1024]
     t
 }
 
+// The whole table.
+pub fn positions_of(b: &[u8]) -> [Position; 1024]
+    requires { ⌜ length (now b) ≡ bookLength ⌝ }
+    ensures { λ r. ⌜ r ≡ bookOf (now (b .entry)) .positions ⌝ }
+{
+    positions_at(b)
+}
+
 // Each field is written where the one before it ends.
-fn put_position(p: Position, b: &mut [u8], at: usize)
+fn put_row(p: Position, b: &mut [u8], at: usize)
     requires { ⌜ at + 20 ≤ length (now b) ⌝ }
     ensures { λ _. ⌜ now (b .exit) ≡ stored (now (b .entry)) at (position .write p) ⌝ }
 {
@@ -72,6 +81,14 @@ fn put_position(p: Position, b: &mut [u8], at: usize)
     put(b, at + 12, 8, money.bits());
 }
 
+// One row is changed where it stands: every other byte is left as it was.
+pub fn put_position(b: &mut [u8], i: usize, p: Position)
+    requires { ⌜ (length (now b) ≡ bookLength) × (i < mostRecords) ⌝ }
+    ensures { λ _. ⌜ Holds (now (b .exit)) (withRows (bookOf (now (b .entry))) (bookOf (now (b .entry)) .records) (set (bookOf (now (b .entry)) .positions) i p)) ⌝ }
+{
+    put_row(p, b, POSITIONS + i * POSITION_BYTES);
+}
+
 pub(crate) fn put_positions(t: [Position; 1024], b: &mut [u8])
     requires { ⌜ length (now b) ≡ bookLength ⌝ }
     ensures { λ _. ⌜ now (b .exit) ≡ stored (now (b .entry)) positionsPlace (writeRows position t) ⌝ }
@@ -79,7 +96,7 @@ pub(crate) fn put_positions(t: [Position; 1024], b: &mut [u8])
     let mut i: usize = 0;
     while i < 1024 {
         let p = t[i];
-        put_position(p, b, POSITIONS + i * POSITION_BYTES);
+        put_row(p, b, POSITIONS + i * POSITION_BYTES);
         i += 1;
     }
 }

@@ -1,7 +1,9 @@
 // Today's list: 256 rows of a trade number, the two accounts, the security, shares and price.
+use crate::layout::BOOK_BYTES;
 use crate::layout::ENTRIES;
 use crate::layout::TRADE_BYTES;
 use crate::layout::TRADES;
+use crate::zeros::put_zeros;
 use fields::get;
 use fields::put;
 use fields::wide;
@@ -16,7 +18,9 @@ ghost use Rattle.rules.specs.Bounds.{mostTrades};
 ghost use Rattle.rules.specs.Book.{noTrade};
 ghost use Rattle.rules.specs.Layout.{trade, bookLength, bookOf, bytesOf};
 ghost use Rattle.book.specs.Places.{tradesPlace};
+ghost use Rattle.rules.specs.Roll.{emptied};
 ghost use Rattle.book.specs.Changing.{withTable};
+ghost use Rattle.book.specs.Replacing.{Holds};
 
 // The row that begins at a byte: its number in 2 bytes, buyer, seller and security in 1 each, shares and price in 4 each.
 fn row_at(b: &[u8], at: usize) -> Trade
@@ -61,6 +65,14 @@ pub fn put_list(b: &mut [u8], n: u16, t: [Trade; 256])
 {
     put(b, ENTRIES, 2, n as u64);
     put_trades(t, b);
+}
+
+// The list is emptied where it stands: its count and its table are the last bytes of the book.
+pub fn clear_list(b: &mut [u8])
+    requires { ⌜ length (now b) ≡ bookLength ⌝ }
+    ensures { λ _. ⌜ Holds (now (b .exit)) (emptied (bookOf (now (b .entry)))) ⌝ }
+{
+    put_zeros(b, ENTRIES, BOOK_BYTES);
 }
 
 // All rows, used or not, as in the position table.

@@ -1,9 +1,8 @@
 -- `book::charges::clear_charges` meets its contract. Assumes nothing.
 use borrow.Author.Needs.{needs}
-use mathlib.Core.Path.{_∙_}
 use native.Mathlib.Omega.{arith}
 use Rattle.fields.specs.Field.{Bytes}
-use Rattle.book.specs.Changing.{charges-cleared}
+use Rattle.book.specs.Replacing.{charges-stored}
 use Rattle.book.proofs.charges.clear_charges.Statement.{statement}
 use Rattle.book.proofs.charges.clear_charges.Tie as tie
 
@@ -19,7 +18,7 @@ same-length c = search needs
 returns : tie.Need-returns
 returns c =
     let s = c .before .before .before .before in
-    c .before .before .put-zeros .ensures ∙ charges-cleared (s .before .args .b .now) (bytes s) (s .before .pre)
+    charges-stored (s .before .args .b .now) (bytes s) (s .before .pre) _ (c .before .before .put-zeros .ensures)
 
 pub clear-charges-spec : {M : Type 1} → statement M
 clear-charges-spec = tie.close (tie.spec put-zeros-requires same-length returns)

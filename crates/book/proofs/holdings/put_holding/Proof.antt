@@ -4,6 +4,7 @@ use mathlib.Core.Path.{_∙_}
 use native.Mathlib.Omega.{arith}
 use Rattle.fields.specs.Field.{Bytes}
 use Rattle.book.specs.Changing.{holding-changed}
+use Rattle.book.specs.Replacing.{holding-back}
 use Rattle.book.proofs.holdings.put_holding.Statement.{statement}
 use Rattle.book.proofs.holdings.put_holding.Tie as tie
 
@@ -25,7 +26,8 @@ same-length c = search needs
 returns : tie.Need-returns
 returns c =
     let s = c .before .before .before .before in
-    c .before .before .put .ensures ∙ holding-changed (s .before .args .b .now) (s .before .args .i) (s .before .args .v) (bytes s) (s .before .pre .0) (s .before .pre .1)
+    holding-back (s .before .args .b .now) (bytes s) (s .before .pre .0) _ (s .before .args .i) (s .before .args .v) (search needs)
+    (c .before .before .put .ensures ∙ holding-changed (s .before .args .b .now) (s .before .args .i) (s .before .args .v) (bytes s) (s .before .pre .0) (s .before .pre .1))
 
 pub put-holding-spec : {M : Type 1} → statement M
 put-holding-spec = tie.close (tie.spec mul-put add-put put-requires same-length returns)

@@ -1,57 +1,30 @@
--- `book::positions::put_position` meets its contract. The fields stored one behind the other are the row stored (`position-written`). Assumes nothing.
+-- `book::positions::put_position` meets its contract. Assumes nothing.
 use borrow.Author.Needs.{needs}
-use Rattle.book.specs.Writing.{digits-written, position-written}
+use native.Mathlib.Omega.{arith}
+use Rattle.fields.specs.Field.{Bytes}
+use Rattle.book.specs.Replacing.{position-stored}
 use Rattle.book.proofs.positions.put_position.Statement.{statement}
 use Rattle.book.proofs.positions.put_position.Tie as tie
 
-cast-put : tie.Need-cast-put
-cast-put c = search needs
+bytes : (c : tie.After-slice-known) → Bytes (c .before .args .b .now)
+bytes c = record { byte = λ i. omega (arith, c .slice-known .given i) }
 
-put-requires : tie.Need-put-requires
-put-requires c κs = search needs
+mul-put-row : tie.Need-mul-put-row
+mul-put-row c = search needs
 
-add-put : tie.Need-add-put
-add-put c = search needs
+add-put-row : tie.Need-add-put-row
+add-put-row c = search needs
 
-bits-requires : tie.Need-bits-requires
-bits-requires c κs = search needs
-
-put-requires-2 : tie.Need-put-requires-2
-put-requires-2 c κs = search needs
-
-add-put-2 : tie.Need-add-put-2
-add-put-2 c = search needs
-
-bits-requires-2 : tie.Need-bits-requires-2
-bits-requires-2 c κs = search needs
-
-put-requires-3 : tie.Need-put-requires-3
-put-requires-3 c κs = search needs
+put-row-requires : tie.Need-put-row-requires
+put-row-requires c κs = search needs
 
 same-length : tie.Need-same-length
 same-length c = search needs
 
 returns : tie.Need-returns
 returns c =
-    let money = c .before .before in
-    let quantity = money .before .before .before .before .before in
-    let number = quantity .before .before .before .before .before in
-    position-written _ _ _ _ _ _
-    (number .put .ensures)
-    (digits-written 8 _ _ _ _ _ (quantity .put2 .ensures) (quantity .before .bits .ensures))
-    (digits-written 8 _ _ _ _ _ (money .put3 .ensures) (money .before .bits2 .ensures))
+    let s = c .before .before .before .before in
+    position-stored (s .before .args .b .now) (bytes s) (s .before .pre .0) _ (s .before .args .i) (s .before .args .p) (s .before .pre .1) (search needs, (search needs, search needs)) (c .before .before .put-row .ensures)
 
 pub put-position-spec : {M : Type 1} → statement M
-put-position-spec =
-    tie.close
-    (tie.spec
-    cast-put
-    put-requires
-    add-put
-    bits-requires
-    put-requires-2
-    add-put-2
-    bits-requires-2
-    put-requires-3
-    same-length
-    returns)
+put-position-spec = tie.close (tie.spec mul-put-row add-put-row put-row-requires same-length returns)

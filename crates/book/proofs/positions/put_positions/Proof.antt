@@ -27,14 +27,14 @@ mul-p c = search needs
 array-copy-out-p : tie.Need-array-copy-out-p Inv-loop μ-loop
 array-copy-out-p c = search needs
 
-mul-put-position : tie.Need-mul-put-position Inv-loop μ-loop
-mul-put-position c = search needs
+mul-put-row : tie.Need-mul-put-row Inv-loop μ-loop
+mul-put-row c = search needs
 
-add-put-position : tie.Need-add-put-position Inv-loop μ-loop
-add-put-position c = search needs
+add-put-row : tie.Need-add-put-row Inv-loop μ-loop
+add-put-row c = search needs
 
-put-position-requires : tie.Need-put-position-requires Inv-loop μ-loop
-put-position-requires c κs = search needs
+put-row-requires : tie.Need-put-row-requires Inv-loop μ-loop
+put-row-requires c κs = search needs
 
 add-i : tie.Need-add-i Inv-loop μ-loop
 add-i c = search needs
@@ -48,7 +48,7 @@ loop-again c =
     let l = s .loop in
     let a = s .before .before .args in
     let n : length (a .t1) ≡ 1_024 = search needs in
-    let p = c .before .before .put-position in (
+    let p = c .before .before .put-row in (
       omega arith,
       (
         omega (arith, p .kept .1 .0),
@@ -77,9 +77,9 @@ put-positions-spec =
     loop-holds
     mul-p
     array-copy-out-p
-    mul-put-position
-    add-put-position
-    put-position-requires
+    mul-put-row
+    add-put-row
+    put-row-requires
     add-i
     loop-less
     loop-again

@@ -1,12 +1,12 @@
--- `book::charges::put_zeros` meets its contract. The invariant: the zeros that are left, stored, make what the contract says. Assumes nothing.
+-- `book::zeros::put_zeros` meets its contract. The invariant: the zeros that are left, stored, make what the contract says. Assumes nothing.
 use native.Mathlib.Omega.{arith}
 use mathlib.Core.Path.{_≡_, refl, _∙_}
 use Prim.Native.Nat.{_≤_, _-_}
 use lib.ListN.{length, replicate, length-set}
 use Rattle.fields.specs.Field.{stored}
 use Rattle.book.specs.Changing.{zeros-more, zeros-done}
-use Rattle.book.proofs.charges.put_zeros.Statement.{statement}
-use Rattle.book.proofs.charges.put_zeros.Tie as tie
+use Rattle.book.proofs.zeros.put_zeros.Statement.{statement}
+use Rattle.book.proofs.zeros.put_zeros.Tie as tie
 
 abbrev Inv-loop : tie.InvT-loop
 Inv-loop b₀ from to i₀ b i = (i ≤ to) × ((length b ≡ length b₀) × (stored b i (replicate (to - i) 0) ≡ stored b₀ from (replicate (to - from) 0)))
