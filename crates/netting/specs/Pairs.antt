@@ -1,10 +1,11 @@
--- Today's nets in one pass over the 2,048 pairs of account and security: pair i is account i / 32 and security i % 32.
+-- Today's nets pair by pair: pair i of the 2,048 is account i / 32 and security i % 32.
 use mathlib.Core.Path.{_≡_, refl, sym, ap, ap₂, _∙_}
 use mathlib.Core.Bool.{true, false}
 use mathlib.Core.List.{List, [], _∷_, _++_, map, append-nil}
-use Prim.Native.Nat.{ℕ, zero, suc, _+_, _*_, _/_, _%_, _<_, _≤_}
+use Prim.Native.Nat.{ℕ, zero, suc, _+_, _-_, _*_, _/_, _%_, _<_, _≤_}
 use native.Mathlib.Nat.{add-zero, zero-add, suc-add}
 use native.Mathlib.Omega.{arith}
+use lib.ListN.{length, length-append}
 use borrow.Table.Elements.{map-app}
 use Rattle.rules.specs.Words.{keep, each, from}
 use Rattle.rules.specs.Bounds.{accounts, everyAccount, everySecurity}
@@ -57,13 +58,29 @@ module _ (due : ℕ) (ts : List Trade) where
         ∙ ap (λ (l : List Position). netsTo i ++ l) (ap (λ (q : Position). keep isPosition (q ∷ [])) (sym at) ∙ keep-no isPosition p [] e ∙ keep-none isPosition)
         ∙ append-nil (netsTo i)
 
+  -- the pairs from i on add to the nets
+  pub nets-to-fewer : (i : ℕ) → i ≤ 2_048 → length (netsTo i) ≤ length (netsTo 2_048)
+  unfolding netsTo
+  nets-to-fewer i h =
+      let rest = map pairNet (from (0 + i) (2_048 - i)) in
+      let e : 2_048 ≡ i + (2_048 - i) = omega arith in
+      let all-pairs : netsTo 2_048 ≡ netsTo i ++ keep isPosition rest =
+      ap (λ (n : ℕ). keep isPosition (map pairNet (from 0 n))) e
+      ∙ ap (λ (l : List ℕ). keep isPosition (map pairNet l)) (from-split 0 i (2_048 - i))
+      ∙ ap (keep isPosition) (map-app pairNet (from 0 i) (from (0 + i) (2_048 - i)))
+      ∙ keep-append isPosition (map pairNet (from 0 i)) rest in
+      omega (arith, ap length all-pairs, length-append (netsTo i) (keep isPosition rest))
+
+  pub pair-of : (a s : ℕ) → s < 32 → netOf due ts a s ≡ pairNet (a * 32 + s)
+  pair-of a s h =
+      let e : a ≡ (a * 32 + s) / 32 = omega arith in
+      let f : s ≡ (a * 32 + s) % 32 = omega arith in
+      ap₂ (λ (b u : ℕ). netOf due ts b u) e f
+
   -- ── the rule's nets, account by account ──
 
   pair-at : (a s : ℕ) → s < 32 → netOf due (tradesOf a ts) a s ≡ pairNet (a * 32 + s)
-  pair-at a s h =
-      let e : a ≡ (a * 32 + s) / 32 = omega arith in
-      let f : s ≡ (a * 32 + s) % 32 = omega arith in
-      netOf-own due ts a s ∙ ap₂ (λ (b u : ℕ). netOf due ts b u) e f
+  pair-at a s h = netOf-own due ts a s ∙ pair-of a s h
 
   account-pairs : (a s n : ℕ) → s + n ≤ 32 → map (netOf due (tradesOf a ts) a) (from s n) ≡ map pairNet (from (a * 32 + s) n)
   unfolding from

@@ -1,15 +1,20 @@
 // "Today's nets become positions due in two days": the position table with the nets behind the open positions.
 use crate::Netted;
-use crate::pair::net_of;
-use rules::Book;
+use crate::account::account_nets;
+use crate::named::named_accounts;
+use crate::named::next_named;
+use book::day_at;
+use book::entries_at;
+use book::positions_of;
+use book::records_at;
+use book::trades_of;
 use rules::Position;
 ghost use mathlib.Core.Path.{_≡_};
 ghost use mathlib.Core.Bool.{true};
-ghost use Prim.Native.Nat.{_≤_};
-ghost use Rattle.rules.specs.Bounds.{mostRecords};
+ghost use lib.ListN.{length};
+ghost use Rattle.rules.specs.Layout.{bookLength, bookOf};
 ghost use Rattle.rules.specs.Sound.{sound, isPosition};
-ghost use Rattle.rules.specs.Roll.{openPlusNets};
-ghost use Rattle.laws.specs.Rolling.{rolling};
+ghost use Rattle.netting.specs.Filling.{WithNets};
 
 // "A net of 0 shares with money is a position; 0 and 0 is none."
 fn is_position(p: Position) -> bool
@@ -23,50 +28,43 @@ fn is_position(p: Position) -> bool
     !m.is_zero()
 }
 
-// One pass over the 2,048 pairs of account and security, by account, then security: by ascending number. The count goes
-// on where the table is full, so that one pass also answers refusal 10.
-fn walked_nets(k: Book) -> Netted
-    requires { ⌜ sound k ≡ true ⌝ }
-    ensures { λ r. ⌜ (r .count ≡ openPlusNets k) × (openPlusNets k ≤ mostRecords → r .positions ≡ rolling k .positions) ⌝ }
+// By account, then security: by ascending number, as the records stand. One walk of the list finds
+// the accounts that it names, and one for each of them gives its nets. The first net for which there is no row ends it:
+// the roll is refused by 10.
+pub fn with_nets(b: &[u8]) -> Netted
+    requires { ⌜ (length (now b) ≡ bookLength) × (sound (bookOf (now b)) ≡ true) ⌝ }
+    ensures { λ r. ⌜ WithNets (bookOf (now (b .entry))) (r .count) (r .positions) ⌝ }
 {
-    let trades = k.trades;
-    let n = k.entries as usize;
-    let due = (k.day as u32) + 2;
-    let mut positions = k.positions;
-    let mut count = k.records as usize;
-    let mut i: usize = 0;
-    while i < 2048 {
-        let account = (i / 32) as u8;
-        let security = (i % 32) as u8;
-        let net = net_of(trades, n, due, account, security);
-        i += 1;
-        if !is_position(net) {
-            continue;
+    let trades = trades_of(b);
+    let n = entries_at(b) as usize;
+    let due = (day_at(b) as u32) + 2;
+    let mut positions = positions_of(b);
+    let mut count = records_at(b) as usize;
+    let named = named_accounts(trades, n);
+    let mut account = next_named(named, 0);
+    while account < 64 {
+        let nets = account_nets(trades, n, due, account);
+        let mut s: usize = 0;
+        while s < 32 {
+            let net = nets.rows[s];
+            s += 1;
+            if !is_position(net) {
+                continue;
+            }
+            if count == 1024 {
+                return Netted {
+                    count: 1025,
+                    positions: positions,
+                };
+            }
+            positions[count] = net;
+            count += 1;
         }
-        count += 1;
-        if count > 1024 {
-            continue;
-        }
-        positions[count - 1] = net;
+        account = next_named(named, account + 1);
     }
     let total = count as u16;
     Netted {
         count: total,
         positions: positions,
     }
-}
-
-// An empty list has no nets, and the table stays as it is.
-pub fn with_nets(k: Book) -> Netted
-    requires { ⌜ sound k ≡ true ⌝ }
-    ensures { λ r. ⌜ (r .count ≡ openPlusNets k) × (openPlusNets k ≤ mostRecords → r .positions ≡ rolling k .positions) ⌝ }
-{
-    if k.entries == 0 {
-        let positions = k.positions;
-        return Netted {
-            count: k.records,
-            positions: positions,
-        };
-    }
-    walked_nets(k)
 }

@@ -1,48 +1,49 @@
-// The roll before its offsetting, in document 01's order: "charges are set to zero; today's nets become positions due in two
-// days; the list is emptied; the day goes up by one".
+// The roll before its offsetting, where the bytes stand, in document 01's order: "charges are set to zero; today's nets become
+// positions due in two days; the list is emptied; the day goes up by one".
 use crate::Netted;
-use rules::Book;
-use rules::Trade;
-use units::Mils;
-use units::Price;
-use units::Whole;
+use book::clear_charges;
+use book::clear_list;
+use book::day_at;
+use book::put_day;
+use book::put_position;
+use book::put_records;
+use book::records_at;
 ghost use mathlib.Core.Path.{_≡_};
 ghost use mathlib.Core.Bool.{true};
-ghost use Rattle.rules.specs.Book.{noTrade};
+ghost use Prim.Native.Nat.{_≤_};
+ghost use lib.ListN.{length};
+ghost use Rattle.rules.specs.Bounds.{mostRecords};
+ghost use Rattle.rules.specs.Layout.{bookLength, bookOf};
 ghost use Rattle.rules.specs.Sound.{sound};
 ghost use Rattle.rules.specs.Roll.{openPlusNets};
 ghost use Rattle.laws.specs.Rolling.{rolling};
+ghost use Rattle.book.specs.Replacing.{withRows};
+ghost use Rattle.netting.specs.Before.{Extends};
 
-// An unused row of the list.
-fn no_trade() -> Trade
-    ensures { λ r. ⌜ r ≡ noTrade ⌝ }
+// The nets are put into the rows behind the open positions; in all other rows the table handed over is the book's.
+fn put_nets(b: &mut [u8], t: Netted)
+    requires { ⌜ (length (now b) ≡ bookLength) × Extends (bookOf (now b) .records) (bookOf (now b) .positions) (t .count) (t .positions) ⌝ }
+    ensures { λ _. ⌜ bookOf (now (b .exit)) ≡ withRows (bookOf (now (b .entry))) (t .count) (t .positions) ⌝ }
 {
-    Trade {
-        number: 0,
-        buyer: 0,
-        seller: 0,
-        security: 0,
-        quantity: 0,
-        price: Price(0),
+    let n = t.count as usize;
+    let mut i = records_at(b) as usize;
+    while i < n {
+        let p = t.positions[i];
+        put_position(b, i, p);
+        i += 1;
     }
+    put_records(b, t.count);
 }
 
 // `t` is what `with_nets` makes of the book, and has room for all nets.
-pub fn before_offset(k: Book, t: Netted) -> Book
-    requires { ⌜ (sound k ≡ true) × ((t .count ≡ openPlusNets k) × (t .positions ≡ rolling k .positions)) ⌝ }
-    ensures { λ r. ⌜ r ≡ rolling k ⌝ }
+pub fn before_offset(b: &mut [u8], t: Netted)
+    requires { ⌜ (length (now b) ≡ bookLength) × (sound (bookOf (now b)) ≡ true) × (openPlusNets (bookOf (now b)) ≤ mostRecords)
+        × (t .count ≡ openPlusNets (bookOf (now b))) × (t .positions ≡ rolling (bookOf (now b)) .positions) ⌝ }
+    ensures { λ _. ⌜ bookOf (now (b .exit)) ≡ rolling (bookOf (now (b .entry))) ⌝ }
 {
-    let nothing = Mils(Whole(0));
-    let unused = no_trade();
-    let charges = [nothing; 256];
-    let trades = [unused; 256];
-    let positions = t.positions;
-    let mut next = k;
-    next.charges = charges;
-    next.records = t.count;
-    next.positions = positions;
-    next.entries = 0;
-    next.trades = trades;
-    next.day = k.day + 1;
-    next
+    let day = day_at(b);
+    clear_charges(b);
+    put_nets(b, t);
+    clear_list(b);
+    put_day(b, day + 1);
 }

@@ -1,10 +1,10 @@
--- `netting::pair::less_sold` meets its contract. Assumes nothing.
+-- `netting::one_trade::less_sold` meets its contract. Assumes nothing.
 use borrow.Author.Needs.{needs}
 use borrow.Author.Tests.{eq-eqb, ne-eqb}
 use mathlib.Core.Path.{_∙_}
 use Rattle.netting.specs.OneTrade.{sold-yes, sold-no}
-use Rattle.netting.proofs.pair.less_sold.Statement.{statement}
-use Rattle.netting.proofs.pair.less_sold.Tie as tie
+use Rattle.netting.proofs.one_trade.less_sold.Statement.{statement}
+use Rattle.netting.proofs.one_trade.less_sold.Tie as tie
 
 returns : tie.Need-returns
 returns c =

@@ -1,9 +1,9 @@
--- `netting::pair::number_of` meets its contract. Assumes nothing.
+-- `netting::account::number_of` meets its contract. Assumes nothing.
 use borrow.Author.Needs.{needs}
 use mathlib.Core.Path.{refl}
 use Rattle.rules.specs.Book.{numberOf}
-use Rattle.netting.proofs.pair.number_of.Statement.{statement}
-use Rattle.netting.proofs.pair.number_of.Tie as tie
+use Rattle.netting.proofs.account.number_of.Statement.{statement}
+use Rattle.netting.proofs.account.number_of.Tie as tie
 
 mul-result : tie.Need-mul-result
 mul-result c = search needs

@@ -1,11 +1,11 @@
--- `netting::pair::plus_bought` meets its contract. Assumes nothing.
+-- `netting::one_trade::plus_bought` meets its contract. Assumes nothing.
 use borrow.Author.Needs.{needs}
 use borrow.Author.Tests.{eq-eqb, ne-eqb}
 use native.Mathlib.Omega.{arith}
 use mathlib.Core.Path.{_∙_}
 use Rattle.netting.specs.OneTrade.{bought-yes, bought-no}
-use Rattle.netting.proofs.pair.plus_bought.Statement.{statement}
-use Rattle.netting.proofs.pair.plus_bought.Tie as tie
+use Rattle.netting.proofs.one_trade.plus_bought.Statement.{statement}
+use Rattle.netting.proofs.one_trade.plus_bought.Tie as tie
 
 returns : tie.Need-returns
 returns c =

@@ -1,9 +1,9 @@
--- `netting::pair::plus_trade` meets its contract. Assumes nothing.
+-- `netting::one_trade::plus_trade` meets its contract. Assumes nothing.
 use borrow.Author.Needs.{needs}
 use native.Mathlib.Omega.{arith}
 use Rattle.netting.specs.OneTrade.{trade-added, limits}
-use Rattle.netting.proofs.pair.plus_trade.Statement.{statement}
-use Rattle.netting.proofs.pair.plus_trade.Tie as tie
+use Rattle.netting.proofs.one_trade.plus_trade.Statement.{statement}
+use Rattle.netting.proofs.one_trade.plus_trade.Tie as tie
 
 cast-size : tie.Need-cast-size
 cast-size c = search needs
