@@ -9,21 +9,20 @@ use lib.Seq.{getD-take}
 use lib.IntN.{natAbs}
 use Rattle.units.specs.Units.{milsOf, mostMils}
 use Rattle.units.specs.declared.Mils.{Mils}
-use Rattle.rules.specs.Bounds.{accounts, currencies, mostRecords}
+use Rattle.rules.specs.Bounds.{currencies, mostRecords}
 use Rattle.rules.specs.Book.{quantityOf, moneyOf, isZero, accountOf, securityOf, noPosition, openOf, currencyOf}
 use Rattle.rules.specs.declared.Position.{Position}
 use Rattle.rules.specs.declared.Book.{Book}
 use Rattle.laws.specs.Cases.{by-test}
 use Rattle.laws.specs.Numbers.{account-below}
 use Rattle.laws.specs.Rows.{row}
-use Rattle.laws.specs.Charging.{chargeAt-below}
 use Rattle.laws.specs.DueDays.{parts-whole}
 use Rattle.laws.specs.OffsetKept.{olderOf, newlyOf, laterOf}
 use Rattle.offsetting.specs.Meeting.{MeetAsks}
 use Rattle.offsetting.specs.Walk.{Walking, walking, meet, pass, whole, walk, WalkAsks, allMet}
 use Rattle.offsetting.specs.WalkIsRule.{walked-is}
 use Rattle.offsetting.specs.Holding.{Held, held-within, row-sized, row-currency, charge-within, held-meet, held-whole, held-start}
-use Rattle.offsetting.specs.Turns.{placeOf, chargeOf, meet-place}
+use Rattle.offsetting.specs.Turns.{placeOf, chargeOf, meet-number, meet-place}
 
 -- ── the inner walk: row i meets the older rows, of which some are left ──
 
@@ -31,21 +30,18 @@ use Rattle.offsetting.specs.Turns.{placeOf, chargeOf, meet-place}
 abbrev pub bound : ℕ → ℕ
 bound i = (mostRecords + i) * mostMils
 
--- row i stands behind the older ones
-pub record Inner (b : Book) (older i at left : ℕ) (x w : Walking) : Type 0 where
+-- row i stands behind the older ones, and has the number that it had when its turn began
+pub record Inner (b : Book) (older i number at left : ℕ) (x w : Walking) : Type 0 where
   pub within : left ≤ older
   pub held : Held b (bound (i + 1)) x
+  pub same : row (x .rows) i .number ≡ number
   pub place : placeOf b (row (x .rows) i) ≡ at
   pub rest : pass b i left (older - left) x ≡ w
 
-module _ (b : Book) (older i at left : ℕ) (x w : Walking) (few : b .records ≤ mostRecords) (hi : i < b .records)
-    (inv : Inner b older i at left x w) where
+module _ (b : Book) (older i number at left : ℕ) (x w : Walking) (few : b .records ≤ mostRecords) (hi : i < b .records)
+    (inv : Inner b older i number at left x w) where
   abbrev p : Position
   p = row (x .rows) i
-
-  pub place-below : at < accounts * currencies
-  place-below = subst (λ (n : ℕ). n < accounts * currencies) (inv .place)
-      (chargeAt-below (accountOf p) (currencyOf b (securityOf p)) (account-below p) (row-currency b (bound (i + 1)) x (inv .held) i hi))
 
   charge-room : natAbs (milsOf (chargeOf (x .charges) at)) ≤ bound (i + 1)
   charge-room = subst (λ (n : ℕ). natAbs (milsOf (chargeOf (x .charges) n)) ≤ bound (i + 1)) (inv .place)
@@ -64,7 +60,7 @@ module _ (b : Book) (older i at left : ℕ) (x w : Walking) (few : b .records �
     abbrev j : ℕ
     j = older - left
 
-    next-inner : Inner b older i at (left - 1) (meet b i j x) w
+    next-inner : Inner b older i number at (left - 1) (meet b i j x) w
     unfolding pass
     next-inner =
         let one : left ≡ suc (left - 1) = omega arith in
@@ -73,20 +69,21 @@ module _ (b : Book) (older i at left : ℕ) (x w : Walking) (few : b .records �
         record {
           within = omega (arith, inv .within);
           held = held-meet b (bound (i + 1)) x (inv .held) i j hi (omega (arith, inv .within)) (λ e. omega (arith, inv .within));
+          same = meet-number b i j x (omega (arith, inv .held .long)) ∙ inv .same;
           place = meet-place b i j x (omega (arith, inv .held .long)) ∙ inv .place;
           rest = ap (λ (n : ℕ). pass b i (left - 1) n (meet b i j x)) (sym next) ∙ step;
         }
 
     -- y is what the meeting leaves
-    pub inner-next : (y : Walking) → meet b i j x ≡ y → Inner b older i at (left - 1) y w
-    inner-next y e = subst (λ (z : Walking). Inner b older i at (left - 1) z w) e next-inner
+    pub inner-next : (y : Walking) → meet b i j x ≡ y → Inner b older i number at (left - 1) y w
+    inner-next y e = subst (λ (z : Walking). Inner b older i number at (left - 1) z w) e next-inner
 
 -- the same of a table
-pub table-asks : (b : Book) (older i at left : ℕ) (ps : List Position) (cs : List Mils) (w : Walking) → b .records ≤ mostRecords → i < b .records
-    → Inner b older i at left (walking (take (b .records) ps) cs) w → (j : ℕ) → j < b .records → MeetAsks (chargeOf cs at) (row ps i) (row ps j)
-table-asks b older i at left ps cs w few hi inv j hj =
+pub table-asks : (b : Book) (older i number at left : ℕ) (ps : List Position) (cs : List Mils) (w : Walking) → b .records ≤ mostRecords → i < b .records
+    → Inner b older i number at left (walking (take (b .records) ps) cs) w → (j : ℕ) → j < b .records → MeetAsks (chargeOf cs at) (row ps i) (row ps j)
+table-asks b older i number at left ps cs w few hi inv j hj =
     rw (getD-take (b .records) ps i noPosition hi, getD-take (b .records) ps j noPosition hj) at
-    (inner-asks b older i at left (walking (take (b .records) ps) cs) w few hi inv j hj)
+    (inner-asks b older i number at left (walking (take (b .records) ps) cs) w few hi inv j hj)
 
 -- ── the outer walk: the rows from i on ──
 
@@ -107,9 +104,6 @@ module _ (b : Book) (older due i : ℕ) (x : Walking) (few : due ≤ b .records)
   pub outer-currency : currency < currencies
   outer-currency = row-currency b (bound i) x (inv .held) i (omega arith)
 
-  pub outer-below : placeOf b q < accounts * currencies
-  outer-below = chargeAt-below (accountOf q) currency (account-below q) outer-currency
-
   pub outer-room : natAbs (milsOf (chargeOf (x .charges) (placeOf b q))) + natAbs (moneyOf q) < 2 ^ 63
   outer-room =
       omega (
@@ -118,37 +112,38 @@ module _ (b : Book) (older due i : ℕ) (x : Walking) (few : due ≤ b .records)
         row-sized b (bound i) x (inv .held) i (omega arith) .money,
       )
 
-  start-inner : (at : ℕ) → placeOf b q ≡ at → Inner b older i at older (whole b i x) (pass b i older 0 (whole b i x))
+  abbrev met : Walking
+  met = pass b i older 0 (whole b i x)
+
+  start-inner : (at : ℕ) → placeOf b q ≡ at → Inner b older i (q .number) at older (whole b i x) met
   unfolding whole
   start-inner at e =
       record {
         within = omega arith;
         held = held-within b (bound i + mostMils) (bound (i + 1)) (whole b i x) (omega arith) (held-whole b (bound i) x (inv .held) i (omega arith));
+        same = by-test (isZero (quantityOf q)) (λ z. rw z) (λ z. rw z);
         place = by-test (isZero (quantityOf q)) (λ z. rw z e) (λ z. rw z e);
         rest = ap (λ (j : ℕ). pass b i older j (whole b i x)) (omega arith);
       }
 
   -- row i is charged whole if it has no shares, which leaves y, and begins
-  pub inner-start : (at : ℕ) (y : Walking) → placeOf b q ≡ at → whole b i x ≡ y → Inner b older i at older y (pass b i older 0 y)
-  inner-start at y e f = subst (λ (z : Walking). Inner b older i at older z (pass b i older 0 z)) f (start-inner at e)
+  pub inner-start : (number at : ℕ) (y : Walking) → q .number ≡ number → placeOf b q ≡ at → whole b i x ≡ y → Inner b older i number at older y met
+  inner-start number at y n e f =
+      subst (λ (m : ℕ). Inner b older i m at older y met) n (subst (λ (z : Walking). Inner b older i (q .number) at older z met) f (start-inner at e))
 
-  next-outer : (at left : ℕ) (y : Walking) → left ≡ 0 → Inner b older i at left y (pass b i older 0 (whole b i x)) → Outer b older due (i + 1) y
+  -- it has met all older rows, which leaves y
+  pub outer-next : (number at left : ℕ) (y : Walking) → left ≡ 0 → Inner b older i number at left y met → Outer b older due (i + 1) y
   unfolding pass walk
-  next-outer at left y none end =
-      let met : y ≡ pass b i older 0 (whole b i x) = ap (λ (n : ℕ). pass b i n (older - n) y) (sym none) ∙ end .rest in
+  outer-next number at left y none end =
+      let all : y ≡ met = ap (λ (n : ℕ). pass b i n (older - n) y) (sym none) ∙ end .rest in
       let one : due - i ≡ suc (due - (i + 1)) = omega arith in
       let step : walk b older (suc (due - (i + 1))) i x ≡ allMet b = ap (λ (n : ℕ). walk b older n i x) (sym one) ∙ inv .rest in
       record {
         behind = omega (arith, inv .behind);
         within = omega arith;
         held = end .held;
-        rest = ap (walk b older (due - (i + 1)) (i + 1)) met ∙ ap (λ (n : ℕ). walk b older (due - (i + 1)) n (pass b i older 0 (whole b i x))) (add-one i) ∙ step;
+        rest = ap (walk b older (due - (i + 1)) (i + 1)) all ∙ ap (λ (n : ℕ). walk b older (due - (i + 1)) n met) (add-one i) ∙ step;
       }
-
-  -- it has met all older rows, which leaves z
-  pub outer-next : (at left : ℕ) (y z : Walking) → whole b i x ≡ y → left ≡ 0 → Inner b older i at left z (pass b i older 0 y) → Outer b older due (i + 1) z
-  outer-next at left y z f none end =
-      next-outer at left z none (subst (λ (v : Walking). Inner b older i at left z (pass b i older 0 v)) (sym f) end)
 
 -- all newly due rows have met the older ones
 pub outer-done : (b : Book) (older due i : ℕ) (x : Walking) → due ≤ i → Outer b older due i x → x ≡ allMet b

@@ -1,46 +1,55 @@
--- The book that offsetting leaves: the rows that the walk leaves, packed, and its charges. And that a roll's book has room for it.
-use mathlib.Core.Path.{_≡_, ap, _∙_}
-use Prim.Native.Nat.{_≤_}
-use lib.ListN.{take}
+-- The book that offsetting leaves: the rows that the walk leaves, packed, and its charges.
+use mathlib.Core.Path.{_≡_, sym, ap, ap₂, _∙_}
+use mathlib.Core.List.{_++_}
+use Prim.Native.Nat.{ℕ, _-_, _≤_}
+use native.Mathlib.Omega.{arith}
+use lib.ListN.{length, drop, replicate}
+use lib.Seq.{drop-append-seam}
 use Rattle.rules.specs.Words.{keep}
 use Rattle.rules.specs.Bounds.{mostRecords}
-use Rattle.rules.specs.Book.{openOf, listOf, withOpen, withList, withCharges, withDay}
+use Rattle.rules.specs.Book.{noPosition, openOf, listOf, withOpen, withList, withCharges, withDay}
 use Rattle.rules.specs.Roll.{remains, offset, uncharged, netted, emptied, nextDay}
 use Rattle.rules.specs.declared.Book.{Book}
-use Rattle.laws.specs.OffsetKept.{Ready, metOf}
-use Rattle.laws.specs.Rolling.{rolling, rolling-open}
+use Rattle.laws.specs.OffsetKept.{metOf}
+use Rattle.laws.specs.Rolling.{rolling, newNets}
+use Rattle.parts.specs.Packing.{PackAsks, remainingIn}
 use Rattle.offsetting.specs.Walk.{Walking, inUse, allMet}
-use Rattle.parts.specs.Packing.{packedOf}
-use Rattle.offsetting.specs.declared.walk.Tables.{Tables}
-use Rattle.parts.specs.declared.packing.Packed.{Packed}
+use Rattle.offsetting.specs.Rows.{Beside, Walked}
 
-pub offset-is : (b : Book) (t : Tables) (r : Packed) → inUse (b .records) t ≡ allMet b
-    → r ≡ packedOf (keep (remains (b .day)) (take (b .records) (t .positions)))
-    → _≡_ {A = Book} (record {
-      day = b .day;
-      currency = b .currency;
-      records = r .records;
-      positions = r .positions;
-      holdings = b .holdings;
-      charges = t .charges;
-      entries = b .entries;
-      trades = b .trades;
-    }) (offset b)
-unfolding offset withCharges withOpen allMet metOf packedOf
-offset-is b t r met packed =
-    let left : r ≡ packedOf (keep (remains (b .day)) (allMet b .rows)) = packed ∙ ap (λ (x : Walking). packedOf (keep (remains (b .day)) (x .rows))) met in
-    λ i. record {
-      day = b .day;
-      currency = b .currency;
-      records = left i .records;
-      positions = left i .positions;
-      holdings = b .holdings;
-      charges = met i .charges;
-      entries = b .entries;
-      trades = b .trades;
+-- ── what packing asks ──
+
+-- the book of a roll, before its offsetting, has nothing behind its records
+pub rolling-asks : (k : Book) → rolling k .records ≤ mostRecords → PackAsks (rolling k)
+unfolding rolling nextDay emptied netted uncharged withDay withList withOpen withCharges openOf listOf
+rolling-asks k h =
+    let ps = openOf k ++ newNets k in
+    record { few = h; blank = drop-append-seam ps (replicate (mostRecords - length ps) noPosition) }
+
+-- behind the records of a walk the table is zero still
+pub pack-asks : (b k : Book) → PackAsks b → Beside b k → PackAsks k
+pack-asks b k a e =
+    record {
+      few = omega (arith, a .few, e .records);
+      blank =
+          ap (λ (n : ℕ). drop n (k .positions)) (e .records) ∙ e .unused ∙ a .blank
+          ∙ ap (λ (n : ℕ). replicate (mostRecords - n) noPosition) (sym (e .records));
     }
 
--- the rows of the book before offsetting are all in use
-pub rolling-room : (k : Book) → Ready (rolling k) → rolling k .records ≤ mostRecords
-unfolding rolling nextDay emptied netted uncharged withDay withList withOpen withCharges openOf listOf
-rolling-room k r = rw (rolling-open k) at (r .few)
+-- ── what comes of it ──
+
+pub offset-is : (b k : Book) → Walked b k → withOpen k (remainingIn k) ≡ offset b
+unfolding offset withCharges withOpen openOf allMet metOf
+offset-is b k w =
+    let e = w .beside in
+    let left : remainingIn k ≡ keep (remains (b .day)) (allMet b .rows) =
+    ap₂ (λ (d n : ℕ). keep (remains d) (inUse n k .rows)) (e .day) (e .records) ∙ ap (λ (x : Walking). keep (remains (b .day)) (x .rows)) (w .met) in
+    λ i. record {
+      day = e .day i;
+      currency = e .currency i;
+      records = length (left i);
+      positions = left i ++ replicate (mostRecords - length (left i)) noPosition;
+      holdings = e .holdings i;
+      charges = w .met i .charges;
+      entries = e .entries i;
+      trades = e .trades i;
+    }

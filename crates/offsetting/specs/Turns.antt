@@ -1,9 +1,8 @@
--- The turns of the walk as the code makes them: one row and its charge, then another. What is left to do decides: from here it comes to
--- what the whole walk comes to.
+-- The turns of the walk as the code makes them: one row and its charge, then another.
 use mathlib.Core.Path.{_≡_, sym, ap, ap₂, _∙_}
 use mathlib.Core.Bool.{true, false, cond}
 use mathlib.Core.List.{List}
-use Prim.Native.Nat.{ℕ, _+_, _-_, _<_}
+use Prim.Native.Nat.{ℕ, _<_}
 use native.Mathlib.Omega.{arith}
 use lib.ListN.{length, getD, take, set, length-set}
 use lib.Seq.{getD-take, take-set-lt, set-getD, getD-set-same, set-set}
@@ -36,6 +35,11 @@ same-place b p q ea es = rw (ea, es)
 number-place : (b : Book) (p q : Position) → p .number ≡ q .number → placeOf b p ≡ placeOf b q
 unfolding accountOf securityOf
 number-place b p q e = rw e
+
+-- and whom it is paired with
+pub number-pair : (p q o : Position) → p .number ≡ q .number → samePair p o ≡ samePair q o
+unfolding samePair accountOf securityOf
+number-pair p q o e = rw e
 
 abbrev pub chargeOf : List Mils → ℕ → Mils
 chargeOf cs at = getD cs at (mils (pos 0))
@@ -87,17 +91,19 @@ module _ (b : Book) (l : List Position) (cs : List Mils) (i j at : ℕ) (place :
       (λ z. rw z (ap (walking l) (sym (set-getD cs at (mils (pos 0))))))
 
 -- the record stays in its row
-pub meet-place : (b : Book) (i j : ℕ) (x : Walking) → i < length (x .rows) → placeOf b (row (meet b i j x .rows) i) ≡ placeOf b (row (x .rows) i)
+pub meet-number : (b : Book) (i j : ℕ) (x : Walking) → i < length (x .rows) → row (meet b i j x .rows) i .number ≡ row (x .rows) i .number
 unfolding meet withoutBoth
-meet-place b i j x h =
+meet-number b i j x h =
     let p = row (x .rows) i in
     let o = row (x .rows) j in
     let k = smaller p o in
     let l = set (x .rows) j (without o k) in
     by-test (faces p o)
-    (λ e. rw (e, getD-set-same l i (without p k) noPosition (omega (arith, length-set (x .rows) j (without o k))))
-    (number-place b (without p k) p (without-number p k)))
+    (λ e. rw (e, getD-set-same l i (without p k) noPosition (omega (arith, length-set (x .rows) j (without o k)))) (without-number p k))
     (λ e. rw e)
+
+pub meet-place : (b : Book) (i j : ℕ) (x : Walking) → i < length (x .rows) → placeOf b (row (meet b i j x .rows) i) ≡ placeOf b (row (x .rows) i)
+meet-place b i j x h = number-place b (row (meet b i j x .rows) i) (row (x .rows) i) (meet-number b i j x h)
 
 -- ── the same of a table of which n rows are in use ──
 

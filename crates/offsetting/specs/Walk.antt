@@ -13,7 +13,6 @@ use Rattle.rules.specs.declared.Position.{Position}
 use Rattle.rules.specs.declared.Book.{Book}
 use Rattle.laws.specs.Rows.{row, withoutBoth}
 use Rattle.laws.specs.OffsetKept.{Ready, olderOf, newlyOf, laterOf, metOf}
-use Rattle.offsetting.specs.declared.walk.Tables.{Tables}
 
 -- the rows in use, and the charges
 pub record Walking : Type 0 where
@@ -23,9 +22,9 @@ pub record Walking : Type 0 where
 abbrev pub walking : List Position → List Mils → Walking
 walking ps cs = record { rows = ps; charges = cs }
 
--- those of the two tables of which n rows are in use
-abbrev pub inUse : ℕ → Tables → Walking
-inUse n t = walking (take n (t .positions)) (t .charges)
+-- those of a book of which n rows are in use
+abbrev pub inUse : ℕ → Book → Walking
+inUse n k = walking (take n (k .positions)) (k .charges)
 
 -- ── the walk ──
 

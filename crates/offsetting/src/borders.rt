@@ -1,5 +1,7 @@
-// Records ascend by number, so those that are due before a day stand first: how many they are says where the others begin.
-use rules::Book;
+// "Due positions are offset", the newly due against the older. Records ascend by number, so those that are due before a day
+// stand first: how many they are says where the others begin.
+use book::position_at;
+use book::records_at;
 use rules::Position;
 use sound_positions::due_of;
 ghost use mathlib.Core.Path.{_≡_};
@@ -9,6 +11,7 @@ ghost use lib.ListN.{length};
 ghost use Rattle.rules.specs.Words.{keep};
 ghost use Rattle.rules.specs.Bounds.{mostRecords};
 ghost use Rattle.rules.specs.Book.{openOf};
+ghost use Rattle.rules.specs.Layout.{bookLength, bookOf};
 ghost use Rattle.laws.specs.DueDays.{isOlder};
 
 // One more than n, if the record is due before the day.
@@ -22,15 +25,15 @@ fn counted(n: usize, p: Position, day: u32) -> usize
     n
 }
 
-pub fn due_before(b: Book, day: u32) -> usize
-    requires { ⌜ b .records ≤ mostRecords ⌝ }
-    ensures { λ r. ⌜ r ≡ length (keep (isOlder day) (openOf b)) ⌝ }
+pub fn due_before(b: &[u8], day: u32) -> usize
+    requires { ⌜ (length (now b) ≡ bookLength) × (bookOf (now b) .records ≤ mostRecords) ⌝ }
+    ensures { λ r. ⌜ r ≡ length (keep (isOlder day) (openOf (bookOf (now (b .entry))))) ⌝ }
 {
-    let n = b.records as usize;
+    let n = records_at(b) as usize;
     let mut older: usize = 0;
     let mut i: usize = 0;
     while i < n {
-        let p = b.positions[i];
+        let p = position_at(b, i);
         older = counted(older, p, day);
         i += 1;
     }

@@ -2,6 +2,7 @@
 // the day against the older ones, and records at 0 shares go.
 mod borders;
 mod meetings;
+mod rows;
 mod walk;
 
 pub use walk::offset_due;

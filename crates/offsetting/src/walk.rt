@@ -1,82 +1,63 @@
-// "Due positions are offset": each newly due record, by ascending number, meets the older ones, by ascending number.
+// "Due positions are offset": each newly due record, by ascending number, meets the older ones, by ascending number,
+// where the bytes stand.
 use crate::borders::due_before;
-use crate::meetings::meeting;
 use crate::meetings::same_pair;
 use crate::meetings::with_whole;
+use crate::rows::meet;
+use book::charge_at;
+use book::codes_of;
+use book::day_at;
+use book::position_at;
+use book::put_charge;
+use parts::pack;
 use parts::place_of;
-use parts::remaining;
-use rules::Book;
-use rules::Position;
-use units::Mils;
 ghost use mathlib.Core.Path.{_≡_};
-ghost use Prim.Native.Nat.{_≤_};
-ghost use Rattle.rules.specs.Bounds.{mostRecords};
+ghost use lib.ListN.{length};
+ghost use Rattle.rules.specs.Layout.{bookLength, bookOf};
 ghost use Rattle.rules.specs.Roll.{offset};
 ghost use Rattle.laws.specs.OffsetKept.{Ready};
-ghost use Rattle.offsetting.specs.Walk.{WalkAsks, inUse, allMet};
-
-// The position table and the charges, while parts are taken and charged.
-struct Tables {
-    positions: [Position; 1024],
-    charges: [Mils; 256],
-}
+ghost use Rattle.parts.specs.Packing.{PackAsks};
+ghost use Rattle.offsetting.specs.Walk.{WalkAsks};
+ghost use Rattle.offsetting.specs.Rows.{Walked};
 
 // The first `older` rows are due before the day, those behind them up to row `due` on the day. One pass over the
-// older rows for each newly due one, and no table is copied on the way; nothing is written for most of them, which are
-// of other accounts and securities.
-fn offset_rows(b: Book, older: usize, due: usize) -> Tables
-    requires { ⌜ WalkAsks b older due ⌝ }
-    ensures { λ r. ⌜ inUse (b .records) r ≡ allMet b ⌝ }
+// older rows for each newly due one; nothing is written for most of them, which are of other accounts and securities,
+// and are done with when their number has been compared. A meeting leaves the number of the newly due record as it is,
+// so that `fresh`, as it was read, still tells whom it may meet.
+fn offset_rows(b: &mut [u8], older: usize, due: usize)
+    requires { ⌜ (length (now b) ≡ bookLength) × WalkAsks (bookOf (now b)) older due ⌝ }
+    ensures { λ _. ⌜ Walked (bookOf (now (b .entry))) (bookOf (now (b .exit))) ⌝ }
 {
-    let mut positions = b.positions;
-    let mut charges = b.charges;
+    let codes = codes_of(b);
     let mut i = older;
     'newly: while i < due {
-        let fresh = positions[i];
-        let codes = b.currency;
+        let fresh = position_at(b, i);
         let at = place_of(codes, fresh);
-        charges[at] = with_whole(charges[at], fresh);
+        let charge = with_whole(charge_at(b, at), fresh);
+        put_charge(b, at, charge);
         let mut left = older;
         'older: while 0 < left {
             let j = older - left;
             left -= 1;
-            let p = positions[i];
-            let o = positions[j];
-            if !same_pair(p, o) {
+            let o = position_at(b, j);
+            if !same_pair(fresh, o) {
                 continue 'older;
             }
-            let m = meeting(charges[at], p, o);
-            let met = m.older;
-            let rest = m.newly;
-            let charge = m.charge;
-            positions[j] = met;
-            positions[i] = rest;
-            charges[at] = charge;
+            meet(b, i, j, at);
         }
         i += 1;
     }
-    Tables {
-        positions: positions,
-        charges: charges,
-    }
 }
 
-// The book before this step: charges zero, today's nets behind the open positions, the day gone up by one.
-pub fn offset_due(b: Book) -> Book
-    requires { ⌜ Ready b × (b .records ≤ mostRecords) ⌝ }
-    ensures { λ r. ⌜ r ≡ offset b ⌝ }
+// The book before this step: charges zero, today's nets behind the open positions and nothing behind them, the day gone
+// up by one.
+pub fn offset_due(b: &mut [u8])
+    requires { ⌜ (length (now b) ≡ bookLength) × Ready (bookOf (now b)) × PackAsks (bookOf (now b)) ⌝ }
+    ensures { λ _. ⌜ bookOf (now (b .exit)) ≡ offset (bookOf (now (b .entry))) ⌝ }
 {
-    let today = b.day as u32;
+    let today = day_at(b) as u32;
     let older = due_before(b, today);
     let due = due_before(b, today + 1);
-    let met = offset_rows(b, older, due);
-    let rows = met.positions;
-    let charges = met.charges;
-    let left = remaining(rows, b.records, b.day);
-    let positions = left.positions;
-    let mut next = b;
-    next.records = left.records;
-    next.positions = positions;
-    next.charges = charges;
-    next
+    offset_rows(b, older, due);
+    pack(b);
 }

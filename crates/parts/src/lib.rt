@@ -4,8 +4,7 @@ mod packing;
 mod places;
 mod taking;
 
-pub use packing::Packed;
-pub use packing::remaining;
+pub use packing::pack;
 pub use places::place_of;
 pub use taking::rest_of;
 pub use taking::with_part;

@@ -1,4 +1,4 @@
-// Where the money of a record is charged: to its account, in the currency of its security.
+// "Each part's money is charged": to the record's account, in the currency of its security.
 use rules::Position;
 use sound_positions::account_of;
 use sound_positions::security_of;

@@ -1,272 +1,188 @@
 -- `offsetting::walk::offset_rows` meets its contract. Both loops' invariants say that what is left to do from here comes to what the rule
--- comes to, and that all sums have room. Assumes nothing.
+-- comes to: `Outside` between two newly due rows; `Inside` while row i meets the older ones, kept for whatever book the walk began with. Assumes
+-- nothing.
 use borrow.Author.Needs.{needs}
-use mathlib.Core.Path.{_≡_, sym, ap, _∙_, subst}
-use Prim.Native.Nat.{ℕ, _-_, _<_, _≤_}
+use mathlib.Core.Path.{sym, _∙_}
+use Prim.Native.Nat.{_-_}
 use native.Mathlib.Omega.{arith}
-use lib.ListN.{length, take, set}
-use lib.Seq.{getD-take, length-take-le}
 use borrow.Author.Tests.{not-true}
-use Rattle.fields.specs.Lengths.{unmapped}
-use Rattle.rules.specs.Book.{openOf, noPosition, securityOf, currencyOf, chargeAt}
-use Rattle.rules.specs.Bounds.{currencies}
-use Rattle.rules.specs.declared.Position.{Position}
+use Rattle.rules.specs.Layout.{bookOf}
 use Rattle.rules.specs.declared.Book.{Book}
-use Rattle.laws.specs.Rows.{row}
-use Rattle.offsetting.specs.Walk.{Walking, walking, pass, whole}
-use Rattle.offsetting.specs.Turns.{placeOf, table-meets, table-passes, table-charged}
-use Rattle.offsetting.specs.Loops.{Inner, table-asks, inner-next, Outer, outer-currency, outer-room, inner-start, outer-next, outer-done, due-few, outer-start}
+use Rattle.offsetting.specs.Walk.{Walking, inUse, pass, whole}
+use Rattle.offsetting.specs.Bytes.{Started, Outside, Inside, started, outside-start, row-below, code-below, whole-room, inside-start, outside-next, outside-end, inside-passed, meet-asks, inside-met}
 use Rattle.offsetting.proofs.walk.offset_rows.Statement.{statement}
 use Rattle.offsetting.proofs.walk.offset_rows.Tie as tie
 
 abbrev Inv-older : tie.InvT-older
-Inv-older b older due positions₀ charges₀ i at left₀ positions charges left =
-    Inner b older i at left (walking (take (b .records) positions) charges) (pass b i older 0 (walking (take (b .records) positions₀) charges₀))
+Inv-older b₀ older due codes i fresh at left₀ b left = (k : Book) (w : Walking) → Inside k older i fresh at left₀ w b₀ → Inside k older i fresh at left w b
 
 abbrev μ-older : tie.MeasureT-older
-μ-older b older due positions₀ charges₀ i at left₀ positions charges left = left
+μ-older b₀ older due codes i fresh at left₀ b left = left
 
 abbrev Inv-newly : tie.InvT-newly
-Inv-newly b older due positions₀ charges₀ i₀ positions charges i = Outer b older due i (walking (take (b .records) positions) charges)
+Inv-newly b₀ older due codes i₀ b i = Outside (bookOf b₀) older due i b
 
 abbrev μ-newly : tie.MeasureT-newly
-μ-newly b older due positions₀ charges₀ i₀ positions charges i = due - i
+μ-newly b₀ older due codes i₀ b i = due - i
 
--- ── the book, and how many rows are in use ──
-
-long : (c : tie.Start Inv-older μ-older Inv-newly μ-newly) → length (c .args .b .positions) ≡ 1024
-long c = search (needs, unmapped)
-
-many : (c : tie.Start Inv-older μ-older Inv-newly μ-newly) → length (openOf (c .args .b)) ≡ c .args .b .records
-unfolding openOf
-many c = length-take-le (c .args .b .records) (c .args .b .positions) (omega (arith, long c, c .pre .few))
-
-due-within : (c : tie.Start Inv-older μ-older Inv-newly μ-newly) → c .args .due ≤ c .args .b .records
-due-within c = due-few (c .args .b) (c .args .older) (c .args .due) (c .pre) (many c)
+-- ── the book that the walk began with ──
 
 abbrev start : tie.At-newly Inv-older μ-older Inv-newly μ-newly → tie.Start Inv-older μ-older Inv-newly μ-newly
-start c = c .before .before .before
+start c = c .before .before .before .before
+
+abbrev book : tie.At-newly Inv-older μ-older Inv-newly μ-newly → Book
+book c = bookOf (start c .args .b .now)
+
+begun : (c : tie.At-newly Inv-older μ-older Inv-newly μ-newly) → Started (book c) (start c .args .older) (start c .args .due) (c .before .codes-of .result)
+begun c =
+    let s = start c in
+    started (s .args .b .now) (s .args .older) (s .args .due) (c .before .codes-of .result) (s .pre .1) (c .before .codes-of .ensures)
 
 -- ── the outer loop ──
 
-abbrev tables : tie.At-newly Inv-older μ-older Inv-newly μ-newly → Walking
-tables c = walking (take (start c .args .b .records) (c .newly .positions)) (c .newly .charges)
-
--- row i is in use
-in-use : (c : tie.In-newly Inv-older μ-older Inv-newly μ-newly) → c .before .newly .i < start (c .before) .args .b .records
-in-use c = omega (arith, due-within (start (c .before)), c .newly-test .taken)
-
-in-table : (c : tie.In-newly Inv-older μ-older Inv-newly μ-newly) → c .before .newly .i < 1024
-in-table c = omega (arith, in-use c, start (c .before) .pre .few)
-
-newly-is : (c : tie.In-newly Inv-older μ-older Inv-newly μ-newly) → row (tables (c .before) .rows) (c .before .newly .i) ≡ row (c .before .newly .positions) (c .before .newly .i)
-newly-is c = getD-take (start (c .before) .args .b .records) (c .before .newly .positions) (c .before .newly .i) noPosition (in-use c)
-
-currency-is : (c : tie.In-newly Inv-older μ-older Inv-newly μ-newly) → currencyOf (start (c .before) .args .b) (securityOf (row (c .before .newly .positions) (c .before .newly .i))) < currencies
-currency-is c =
-    let s = start (c .before) in
-    subst (λ (p : Position). currencyOf (s .args .b) (securityOf p) < currencies) (newly-is c)
-    (outer-currency (s .args .b) (s .args .older) (s .args .due) (c .before .newly .i) (tables (c .before)) (due-within s) (s .pre .few) (c .newly-test .taken) (c .before .newly .inv))
-
--- the place of its charge
-placed : (c : tie.After-place-of Inv-older μ-older Inv-newly μ-newly)
-    → placeOf (start (c .before .before .before .before) .args .b) (row (tables (c .before .before .before .before) .rows) (c .before .before .before .before .newly .i)) ≡ c .place-of .result
-unfolding chargeAt currencyOf
-placed c = ap (placeOf (start (c .before .before .before .before) .args .b)) (newly-is (c .before .before .before)) ∙ sym (c .place-of .ensures .0)
-
--- the charge as it is then
-charged-is : (c : tie.After-with-whole Inv-older μ-older Inv-newly μ-newly)
-    → whole (start (c .before .before .before .before .before .before) .args .b) (c .before .before .before .before .before .before .newly .i) (tables (c .before .before .before .before .before .before))
-    ≡ walking (tables (c .before .before .before .before .before .before) .rows) (set (c .before .before .before .before .before .before .newly .charges) (c .before .before .place-of .result) (c .with-whole .result))
-charged-is c =
-    let l = c .before .before .before .before .before .before in
-    let s = start l in
-    table-charged (s .args .b) (s .args .b .records) (l .newly .positions) (l .newly .charges) (l .newly .i) (c .before .before .place-of .result)
-    (in-use (c .before .before .before .before .before)) (placed (c .before .before)) (omega (arith, l .newly .inv .held .wide, c .before .before .place-of .ensures .1))
-    (c .with-whole .result) (c .with-whole .ensures)
+codes-of-requires : tie.Need-codes-of-requires Inv-older μ-older Inv-newly μ-newly
+codes-of-requires c κs = c .before .before .pre .0
 
 newly-holds : tie.Need-newly-holds Inv-older μ-older Inv-newly μ-newly
-unfolding openOf
-newly-holds c = let s = c .before .before in outer-start (s .args .b) (s .args .older) (s .args .due) (s .pre) (many s)
+newly-holds c =
+    let s = c .before .before .before in
+    outside-start (s .args .b .now) (s .args .older) (s .args .due) (c .codes-of .result) (s .pre .0)
+    (started (s .args .b .now) (s .args .older) (s .args .due) (c .codes-of .result) (s .pre .1) (c .codes-of .ensures))
 
-mul-fresh : tie.Need-mul-fresh Inv-older μ-older Inv-newly μ-newly
-mul-fresh c = omega (arith, in-table c)
-
-array-copy-out-fresh : tie.Need-array-copy-out-fresh Inv-older μ-older Inv-newly μ-newly
-array-copy-out-fresh c = in-table c
+position-at-requires : tie.Need-position-at-requires Inv-older μ-older Inv-newly μ-newly
+position-at-requires c κs =
+    let l = c .before .before in
+    (l .newly .inv .long, row-below (begun l) (l .newly .i) (l .newly .b) (c .before .newly-test .taken) (l .newly .inv))
 
 place-of-requires : tie.Need-place-of-requires Inv-older μ-older Inv-newly μ-newly
-unfolding currencyOf
-place-of-requires c κs = currency-is (c .before .before)
+place-of-requires c κs =
+    let n = c .before .before in
+    let l = n .before in
+    code-below (begun l) (l .newly .i) (l .newly .b) (n .newly-test .taken) (l .newly .inv) (c .position-at .result) (c .position-at .ensures)
 
-mul-with-whole : tie.Need-mul-with-whole Inv-older μ-older Inv-newly μ-newly
-mul-with-whole c = omega (arith, c .place-of .ensures .1)
-
-array-copy-out-with-whole : tie.Need-array-copy-out-with-whole Inv-older μ-older Inv-newly μ-newly
-array-copy-out-with-whole c = c .place-of .ensures .1
+charge-at-requires : tie.Need-charge-at-requires Inv-older μ-older Inv-newly μ-newly
+charge-at-requires c κs = (c .before .before .before .before .before .newly .inv .long, c .before .place-of .ensures .1)
 
 with-whole-requires : tie.Need-with-whole-requires Inv-older μ-older Inv-newly μ-newly
 with-whole-requires c κs =
-    let l = c .before .before .before .before .before in
-    let s = start l in
-    rw (placed (c .before), newly-is (c .before .before .before .before)) at
-    (outer-room (s .args .b) (s .args .older) (s .args .due) (l .newly .i) (tables l) (due-within s) (s .pre .few) (c .before .before .before .before .newly-test .taken) (l .newly .inv))
+    let a = c .before .before in
+    let p = a .before in
+    let n = p .before .before in
+    let l = n .before in
+    whole-room (begun l) (l .newly .i) (l .newly .b) (n .newly-test .taken) (l .newly .inv) (p .position-at .result) (p .position-at .ensures)
+    (a .place-of .result) (a .place-of .ensures .0) (a .place-of .ensures .1) (c .charge-at .result) (c .charge-at .ensures)
 
-mul-charges : tie.Need-mul-charges Inv-older μ-older Inv-newly μ-newly
-mul-charges c = omega (arith, c .before .before .place-of .ensures .1)
+put-charge-requires : tie.Need-put-charge-requires Inv-older μ-older Inv-newly μ-newly
+put-charge-requires c κs =
+    let a = c .before .before .before .before in
+    (a .before .before .before .before .newly .inv .long, a .place-of .ensures .1)
 
-array-set-from-charges : tie.Need-array-set-from-charges Inv-older μ-older Inv-newly μ-newly
-array-set-from-charges c = c .before .before .place-of .ensures .1
+-- ── the inner loop: row i in the outer one, its charge, and what comes of its turn ──
+
+abbrev turn : tie.After-put-charge Inv-older μ-older Inv-newly μ-newly → tie.In-newly Inv-older μ-older Inv-newly μ-newly
+turn c = c .before .before .before .before .before .before .before .before
+
+abbrev place : tie.After-put-charge Inv-older μ-older Inv-newly μ-newly → tie.After-place-of Inv-older μ-older Inv-newly μ-newly
+place c = c .before .before .before .before .before
+
+abbrev comes : tie.At-newly Inv-older μ-older Inv-newly μ-newly → Walking
+comes l = pass (book l) (l .newly .i) (start l .args .older) 0 (whole (book l) (l .newly .i) (inUse (book l .records) (bookOf (l .newly .b))))
+
+entered : (c : tie.After-put-charge Inv-older μ-older Inv-newly μ-newly)
+    → Inside (book (turn c .before)) (start (turn c .before) .args .older) (turn c .before .newly .i) (place c .before .position-at .result) (place c .place-of .result) (start (turn c .before) .args .older) (comes (turn c .before)) (c .put-charge .last .0)
+entered c =
+    let v = c .before .before in
+    let a = place c in
+    let p = a .before in
+    let n = turn c in
+    let l = n .before in
+    inside-start (begun l) (l .newly .i) (l .newly .b) (n .newly-test .taken) (l .newly .inv) (p .position-at .result) (p .position-at .ensures)
+    (a .place-of .result) (a .place-of .ensures .0) (a .place-of .ensures .1) (v .before .charge-at .result) (v .before .charge-at .ensures)
+    (v .with-whole .result) (v .with-whole .ensures) (c .put-charge .last .0) (c .put-charge .kept .0) (c .put-charge .ensures .1)
+
+abbrev charged : tie.At-older Inv-older μ-older Inv-newly μ-newly → tie.After-put-charge Inv-older μ-older Inv-newly μ-newly
+charged c = c .before .before .before
+
+abbrev outer : tie.At-older Inv-older μ-older Inv-newly μ-newly → tie.At-newly Inv-older μ-older Inv-newly μ-newly
+outer c = turn (charged c) .before
+
+inside : (c : tie.At-older Inv-older μ-older Inv-newly μ-newly)
+    → Inside (book (outer c)) (start (outer c) .args .older) (outer c .newly .i) (place (charged c) .before .position-at .result) (place (charged c) .place-of .result) (c .older .left) (comes (outer c)) (c .older .b)
+inside c = c .older .inv (book (outer c)) (comes (outer c)) (entered (charged c))
 
 older-holds : tie.Need-older-holds Inv-older μ-older Inv-newly μ-newly
-older-holds c =
-    let l = c .before .before .before .before .before .before in
-    let s = start l in
-    inner-start (s .args .b) (s .args .older) (s .args .due) (l .newly .i) (tables l) (due-within s) (s .pre .few) (c .before .before .before .before .before .newly-test .taken) (l .newly .inv)
-    (c .before .before .place-of .result) _ (placed (c .before .before)) (charged-is c)
-
--- ── the inner loop ──
-
-abbrev outside : tie.In-older Inv-older μ-older Inv-newly μ-newly → tie.In-newly Inv-older μ-older Inv-newly μ-newly
-outside c = c .before .before .before .before .before .before .before
-
-abbrev book : tie.In-older Inv-older μ-older Inv-newly μ-newly → Book
-book c = start (outside c .before) .args .b
-
-abbrev older : tie.In-older Inv-older μ-older Inv-newly μ-newly → ℕ
-older c = start (outside c .before) .args .older
-
-abbrev at : tie.In-older Inv-older μ-older Inv-newly μ-newly → ℕ
-at c = c .before .before .before .before .place-of .result
-
-abbrev i : tie.In-older Inv-older μ-older Inv-newly μ-newly → ℕ
-i c = outside c .before .newly .i
-
--- the older row whose turn it is
-abbrev j : tie.In-older Inv-older μ-older Inv-newly μ-newly → ℕ
-j c = older c - c .before .older .left
-
-abbrev inner : tie.In-older Inv-older μ-older Inv-newly μ-newly → Walking
-inner c = walking (take (book c .records) (c .before .older .positions)) (c .before .older .charges)
-
-at-below : (c : tie.In-older Inv-older μ-older Inv-newly μ-newly) → at c < 256
-at-below c = c .before .before .before .before .place-of .ensures .1
-
--- some older rows are left, all of them stand before row i, and that is in use
-record Stands (n older left i : ℕ) : Type 0 where
-  some : 0 < left
-  within : left ≤ older
-  behind : older ≤ i
-  below : i < n
-  few : n ≤ 1024
-
-stands : (c : tie.In-older Inv-older μ-older Inv-newly μ-newly) → Stands (book c .records) (older c) (c .before .older .left) (i c)
-stands c =
-    record {
-      some = c .older-test .taken;
-      within = c .before .older .inv .within;
-      behind = outside c .before .newly .inv .behind;
-      below = in-use (outside c);
-      few = start (outside c .before) .pre .few;
-    }
+older-holds c = λ k w i. i
 
 sub-j : tie.Need-sub-j Inv-older μ-older Inv-newly μ-newly
-sub-j c = omega (arith, stands c)
+sub-j c = omega (arith, inside (c .before) .inner .within, c .older-test .taken)
 
 sub-left : tie.Need-sub-left Inv-older μ-older Inv-newly μ-newly
 sub-left c = c .older-test .taken
 
-mul-p : tie.Need-mul-p Inv-older μ-older Inv-newly μ-newly
-mul-p c = omega (arith, in-table (outside c))
-
-array-copy-out-p : tie.Need-array-copy-out-p Inv-older μ-older Inv-newly μ-newly
-array-copy-out-p c = in-table (outside c)
-
-mul-o : tie.Need-mul-o Inv-older μ-older Inv-newly μ-newly
-mul-o c = omega (arith, stands (c .before))
-
-array-copy-out-o : tie.Need-array-copy-out-o Inv-older μ-older Inv-newly μ-newly
-array-copy-out-o c = omega (arith, stands (c .before))
+position-at-requires-2 : tie.Need-position-at-requires-2 Inv-older μ-older Inv-newly μ-newly
+position-at-requires-2 c κs =
+    let x = inside (c .before .before) in
+    (x .long, omega (arith, x .inner .within, x .behind, x .below, x .few, c .before .older-test .taken))
 
 same-pair-requires : tie.Need-same-pair-requires Inv-older μ-older Inv-newly μ-newly
 same-pair-requires c κs = search needs
 
+-- rows of other accounts or securities
+
 older-less : tie.Need-older-less Inv-older μ-older Inv-newly μ-newly
 older-less c = omega (arith, c .before .before .before .before .older-test .taken)
 
--- rows of other accounts or securities
 older-again : tie.Need-older-again Inv-older μ-older Inv-newly μ-newly
 older-again c =
-    let l = c .before .before .before .before in
-    let o = l .before .older in
-    inner-next (book l) (older l) (i l) (at l) (o .left) (inner l) _ (stands l .few) (in-use (outside l)) (o .inv) (stands l .behind) (stands l .some) _
-    (table-passes (book l) (book l .records) (o .positions) (o .charges) (i l) (at l) (in-use (outside l)) (o .inv .place) (omega (arith, o .inv .held .wide, at-below l))
-    (j l) (omega (arith, stands l)) (sym (c .before .same-pair .ensures) ∙ not-true _ (c .if1 .taken)))
+    let o = c .before .before in
+    let n = o .before .before in
+    let h = n .before in
+    λ k w i. inside-passed k _ _ _ _ _ w (h .older .b) (n .older-test .taken) (h .older .inv k w i) (o .position-at2 .result) (o .position-at2 .ensures)
+    (sym (c .before .same-pair .ensures) ∙ not-true _ (c .if1 .taken))
 
-abbrev meets : tie.After-charge Inv-older μ-older Inv-newly μ-newly → tie.In-older Inv-older μ-older Inv-newly μ-newly
-meets c = c .before .before .before .before .before .before .before .before .before
+-- a meeting
 
-mul-meeting : tie.Need-mul-meeting Inv-older μ-older Inv-newly μ-newly
-mul-meeting c = omega (arith, at-below (c .before .before .before .before))
+meet-requires : tie.Need-meet-requires Inv-older μ-older Inv-newly μ-newly
+meet-requires c κs =
+    let n = c .before .before .before .before .before in
+    let x = inside (n .before) in
+    (x .long, meet-asks _ _ _ _ _ _ _ _ (n .older-test .taken) x)
 
-array-copy-out-meeting : tie.Need-array-copy-out-meeting Inv-older μ-older Inv-newly μ-newly
-array-copy-out-meeting c = at-below (c .before .before .before .before)
-
-meeting-requires : tie.Need-meeting-requires Inv-older μ-older Inv-newly μ-newly
-meeting-requires c κs =
-    let l = c .before .before .before .before .before in
-    let o = l .before .older in
-    table-asks (book l) (older l) (i l) (at l) (o .left) (o .positions) (o .charges) _ (stands l .few) (in-use (outside l)) (o .inv) _ (omega (arith, stands l))
-
-mul-positions : tie.Need-mul-positions Inv-older μ-older Inv-newly μ-newly
-mul-positions c = omega (arith, stands (meets c))
-
-array-set-from-positions : tie.Need-array-set-from-positions Inv-older μ-older Inv-newly μ-newly
-array-set-from-positions c = omega (arith, stands (meets c))
-
-mul-positions-2 : tie.Need-mul-positions-2 Inv-older μ-older Inv-newly μ-newly
-mul-positions-2 c = omega (arith, in-table (outside (meets c)))
-
-array-set-from-positions-2 :
-    tie.Need-array-set-from-positions-2 Inv-older μ-older Inv-newly μ-newly
-array-set-from-positions-2 c = in-table (outside (meets c))
-
-mul-charges-2 : tie.Need-mul-charges-2 Inv-older μ-older Inv-newly μ-newly
-mul-charges-2 c = omega (arith, at-below (meets c))
-
-array-set-from-charges-2 : tie.Need-array-set-from-charges-2 Inv-older μ-older Inv-newly μ-newly
-array-set-from-charges-2 c = at-below (meets c)
+abbrev meets : tie.After-meet Inv-older μ-older Inv-newly μ-newly → tie.In-older Inv-older μ-older Inv-newly μ-newly
+meets c = c .before .before .before .before .before .before
 
 older-less-2 : tie.Need-older-less-2 Inv-older μ-older Inv-newly μ-newly
-older-less-2 c = omega (arith, meets c .older-test .taken)
+older-less-2 c = omega (arith, meets (c .before .before) .older-test .taken)
 
 older-again-2 : tie.Need-older-again-2 Inv-older μ-older Inv-newly μ-newly
 older-again-2 c =
-    let l = meets c in
-    let o = l .before .older in
-    inner-next (book l) (older l) (i l) (at l) (o .left) (inner l) _ (stands l .few) (in-use (outside l)) (o .inv) (stands l .behind) (stands l .some) _
-    (table-meets (book l) (book l .records) (o .positions) (o .charges) (i l) (at l) (in-use (outside l)) (o .inv .place) (omega (arith, o .inv .held .wide, at-below l))
-    (j l) (omega (arith, stands l)) (c .before .before .before .meeting .result) (c .before .before .before .meeting .ensures))
+    let m = c .before .before in
+    let n = meets m in
+    let h = n .before in
+    λ k w i. inside-met k _ _ _ _ _ w (h .older .b) (n .older-test .taken) (h .older .inv k w i) (m .meet .last .0) (m .meet .kept .0) (m .meet .ensures)
+
+-- ── the next newly due row, and the end ──
 
 add-i : tie.Need-add-i Inv-older μ-older Inv-newly μ-newly
-add-i c = omega (arith, in-table (c .before .before .before .before .before .before .before))
+add-i c = omega (arith, inside (c .before) .below, inside (c .before) .few)
 
 newly-less : tie.Need-newly-less Inv-older μ-older Inv-newly μ-newly
-newly-less c = omega (arith, c .before .before .before .before .before .before .before .newly-test .taken)
+newly-less c = omega (arith, turn (charged (c .before)) .newly-test .taken)
 
 newly-again : tie.Need-newly-again Inv-older μ-older Inv-newly μ-newly
 newly-again c =
-    let e = c .before .before in
-    let l = e .before .before .before .before .before .before in
-    let s = start l in
-    outer-next (s .args .b) (s .args .older) (s .args .due) (l .newly .i) (tables l) (due-within s) (s .pre .few) (e .before .before .before .before .before .newly-test .taken) (l .newly .inv)
-    (e .before .before .place-of .result) (c .before .older .left) _ _ (charged-is e) (omega (arith, c .older-test .left)) (c .before .older .inv)
+    let h = c .before in
+    let l = outer h in
+    outside-next (begun l) (l .newly .i) (l .newly .b) (turn (charged h) .newly-test .taken) (l .newly .inv) _ _ (h .older .left) (h .older .b) (omega (arith, c .older-test .left)) (inside h)
+
+same-length : tie.Need-same-length Inv-older μ-older Inv-newly μ-newly
+same-length c = omega (arith, c .before .newly .inv .long, start (c .before) .pre .0)
 
 returns : tie.Need-returns Inv-older μ-older Inv-newly μ-newly
 returns c =
-    let l = c .before .newly in
-    let s = start (c .before) in
-    outer-done (s .args .b) (s .args .older) (s .args .due) (l .i) (tables (c .before)) (c .newly-test .left) (l .inv)
+    let l = c .before in
+    let s = start l in
+    outside-end (book l) (s .args .older) (s .args .due) (l .newly .i) (l .newly .b) (c .newly-test .left) (l .newly .inv)
 
 pub offset-rows-spec : {M : Type 1} → statement M
 offset-rows-spec =
@@ -276,37 +192,25 @@ offset-rows-spec =
     μ-older
     Inv-newly
     μ-newly
+    codes-of-requires
     newly-holds
-    mul-fresh
-    array-copy-out-fresh
+    position-at-requires
     place-of-requires
-    mul-with-whole
-    array-copy-out-with-whole
+    charge-at-requires
     with-whole-requires
-    mul-charges
-    array-set-from-charges
+    put-charge-requires
     older-holds
     sub-j
     sub-left
-    mul-p
-    array-copy-out-p
-    mul-o
-    array-copy-out-o
+    position-at-requires-2
     same-pair-requires
     older-less
     older-again
-    mul-meeting
-    array-copy-out-meeting
-    meeting-requires
-    mul-positions
-    array-set-from-positions
-    mul-positions-2
-    array-set-from-positions-2
-    mul-charges-2
-    array-set-from-charges-2
+    meet-requires
     older-less-2
     older-again-2
     add-i
     newly-less
     newly-again
+    same-length
     returns)
