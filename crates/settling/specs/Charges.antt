@@ -23,6 +23,11 @@ pub record ChargeAsks (cs : List Mils) (codes : List ℕ) (p q : Position) (k : 
   pub receiver-code : getD codes (securityOf q) 0 < 4
   pub within : (x : ℕ) → x < 256 → natAbs (milsOf (getD cs x (mils (pos 0)))) ≤ mostAtStake
 
+-- of what the code has, by equations
+pub asks-same : {cs cs′ : List Mils} {l l′ : List ℕ} {p p′ q q′ : Position} {k k′ : ℕ} → cs′ ≡ cs → l′ ≡ l → p′ ≡ p → q′ ≡ q → k′ ≡ k
+    → ChargeAsks cs l p q k → ChargeAsks cs′ l′ p′ q′ k′
+asks-same ec el ep eq ek a = rw (ec, el, ep, eq, ek) a
+
 -- the charges with the money of k shares of a record
 unfoldable pub chargedPart : List Mils → List ℕ → Position → ℕ → List Mils
 chargedPart cs codes p k = charged cs (chargeAt (accountOf p) (getD codes (securityOf p) 0)) (partMoney p k)

@@ -1,5 +1,5 @@
 -- Counting what can be given and what is wanted, record by record: the count so far and what the other records add make the whole.
-use mathlib.Core.Path.{_≡_, sym, ap, _∙_, subst}
+use mathlib.Core.Path.{_≡_, refl, sym, ap, _∙_, subst}
 use mathlib.Core.Bool.{Bool, true, false, _&&_}
 use mathlib.Core.List.{List, [], _∷_}
 use Prim.Native.Nat.{ℕ, _+_, _*_, _-_, min, _<_, _≤_}
@@ -131,14 +131,13 @@ module _ (b : Book) (s : ℕ) (ok : sound b ≡ true) (long : length (b .positio
     pub giving-fits : sum + k ≤ mostRecords * mostShares
     giving-fits = omega (arith, giving-more .small, giving-more .row, sound-runnable b ok .few)
 
-    -- a record that gives nothing leaves the holdings as they are, and one that gives something has something given
-    pub giving-none : k ≡ 0 → Giving b s hs sum (i + 1)
-    giving-none z =
-        subst (λ (l : List ℕ). Giving b s l sum (i + 1)) (same-held hs at k z)
-        (subst (λ (m : ℕ). Giving b s (set hs at (getD hs at 0 - k)) m (i + 1)) (omega arith) giving-more)
-
-    pub giving-some : 0 < k → 0 < deliverable b s
-    giving-some h = omega (arith, giving-more .rest)
+  -- a record that owes nothing gives nothing, and leaves the holdings as they are
+  module _ (hs : List ℕ) (sum i : ℕ) (hi : i < b .records) (c : Giving b s hs sum i) (none : owes (b .day) s (getD (b .positions) i noPosition) ≡ 0) where
+    pub giving-none : Giving b s hs sum (i + 1)
+    giving-none =
+        let at : ℕ = holdingAt (accountOf (getD (b .positions) i noPosition)) s in
+        subst (λ (l : List ℕ). Giving b s l sum (i + 1)) (same-held hs at 0 refl)
+        (subst (λ (m : ℕ). Giving b s (set hs at (getD hs at 0 - 0)) m (i + 1)) (omega arith) (giving-more hs sum i at 0 hi c refl (omega arith)))
 
   pub giving-end : (hs : List ℕ) (sum i : ℕ) → b .records ≤ i → Giving b s hs sum i → (sum ≡ deliverable b s) × (sum ≤ mostRecords * mostShares)
   unfolding giversOf total

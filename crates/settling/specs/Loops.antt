@@ -1,7 +1,8 @@
--- The two loops of the walk, over the tables of the code: what each keeps, how it starts, goes on and ends; and that the walk may be left when
+-- The two loops of the walk, over the book's positions, holdings and charges: what each keeps, how it starts, goes on and ends; and that the walk may be left when
 -- nothing is left to give.
 use mathlib.Core.Path.{_≡_, refl, sym, ap, _∙_, subst}
 use mathlib.Core.Bool.{Bool, true, false, _&&_}
+use mathlib.Core.List.{List}
 use Prim.Native.Nat.{ℕ, _+_, _-_, _/_, _%_, min, _<_, _≤_}
 use native.Mathlib.Omega.{arith}
 use lib.Dec.{leb}
@@ -11,6 +12,7 @@ use lib.IntN.{pos, natAbs}
 use borrow.Author.Tests.{leb-true, le-leb}
 use Rattle.units.specs.Units.{milsOf, mils, mostShares, mostMils}
 use Rattle.units.specs.PartLaws.{PartAsks}
+use Rattle.units.specs.declared.Mils.{Mils}
 use Rattle.rules.specs.Words.{all}
 use Rattle.rules.specs.Bounds.{securities, currencies, mostHeld, mostAtStake}
 use Rattle.rules.specs.Book.{quantityOf, moneyOf, accountOf, openOf, unlisted, noPosition, holdingAt, chargeAt}
@@ -39,10 +41,19 @@ use Rattle.laws.specs.RunHoldings.{met-total}
 use Rattle.laws.specs.RunMoney.{met-weight}
 use Rattle.settling.specs.Passing.{Full, Apart, full-more, apart-start}
 use Rattle.settling.specs.Steps.{inner-rest, outer-rest, rest-enter, rest-full, rest-spent, rest-leave, rest-none, rest-same}
-use Rattle.settling.specs.declared.walk.Walked.{Walked}
 
--- the tables of the code, of which n rows are in use, as a walk that has given what is no longer left of `whole`
-abbrev pub walking : ℕ → ℕ → Walked → Walking
+-- the tables that the walk alters, and what is left to give
+pub record Tables : Type 0 where
+  pub positions : List Position
+  pub holdings : List ℕ
+  pub charges : List Mils
+  pub left : ℕ
+
+abbrev pub tablesOf : Book → ℕ → Tables
+tablesOf k left = record { positions = k .positions; holdings = k .holdings; charges = k .charges; left = left }
+
+-- these tables, of which n rows are in use, as a walk that has given what is no longer left of `whole`
+abbrev pub walking : ℕ → ℕ → Tables → Walking
 walking n whole t = record { records = take n (t .positions); holdings = t .holdings; charges = t .charges; shares = whole - t .left }
 
 -- a listed security of a sound book, and all that can be given of it
@@ -90,7 +101,7 @@ part-asks b s p k h e =
 -- ── what the two loops keep ──
 
 -- between two givers: the rows before g have given what they can, those before r want nothing more
-pub record Outer (b : Book) (s whole g r : ℕ) (t : Walked) : Type 0 where
+pub record Outer (b : Book) (s whole g r : ℕ) (t : Tables) : Type 0 where
   pub giver : g ≤ b .records
   pub receiver : r ≤ b .records
   pub some : t .left ≤ whole
@@ -100,7 +111,7 @@ pub record Outer (b : Book) (s whole g r : ℕ) (t : Walked) : Type 0 where
   pub rest : outer-rest b s g (walking (b .records) whole t) ≡ walked b s
 
 -- while row g gives
-pub record Inner (b : Book) (s whole g r : ℕ) (t : Walked) : Type 0 where
+pub record Inner (b : Book) (s whole g r : ℕ) (t : Tables) : Type 0 where
   pub receiver : r ≤ b .records
   pub some : t .left ≤ whole
   pub ready : Ready b (walking (b .records) whole t)
@@ -109,7 +120,7 @@ pub record Inner (b : Book) (s whole g r : ℕ) (t : Walked) : Type 0 where
   pub rest : inner-rest b s g r (walking (b .records) whole t) ≡ walked b s
 
 -- the rows of the tables are those of the walk
-pub row-here : {n : ℕ} (t : Walked) (g : ℕ) → g < n → row (take n (t .positions)) g ≡ row (t .positions) g
+pub row-here : {n : ℕ} (t : Tables) (g : ℕ) → g < n → row (take n (t .positions)) g ≡ row (t .positions) g
 row-here {n} t g h = getD-take n (t .positions) g noPosition h
 
 module _ (b : Book) (s : ℕ) (shape : Shaped b) (whole : ℕ) (asks : WalkAsks b s whole) where
@@ -176,7 +187,7 @@ module _ (b : Book) (s : ℕ) (shape : Shaped b) (whole : ℕ) (asks : WalkAsks 
 
   -- ── the loops ──
 
-  pub outer-start : (t : Walked) → t .positions ≡ b .positions → t .holdings ≡ b .holdings → t .charges ≡ b .charges → t .left ≡ whole → Outer b s whole 0 0 t
+  pub outer-start : (t : Tables) → t .positions ≡ b .positions → t .holdings ≡ b .holdings → t .charges ≡ b .charges → t .left ≡ whole → Outer b s whole 0 0 t
   unfolding openOf walked
   outer-start t ep eh ec el =
       let z : whole - t .left ≡ 0 = omega arith in
@@ -191,7 +202,7 @@ module _ (b : Book) (s : ℕ) (shape : Shaped b) (whole : ℕ) (asks : WalkAsks 
         rest = ap (outer-rest b s 0) (sym e) ∙ ap (λ (m : ℕ). search b s m 0 (unwalked b)) (omega arith);
       }
 
-  pub inner-start : (g r : ℕ) (t : Walked) → g < n → Outer b s whole g r t → Inner b s whole g r t
+  pub inner-start : (g r : ℕ) (t : Tables) → g < n → Outer b s whole g r t → Inner b s whole g r t
   inner-start g r t h c =
       record {
         receiver = c .receiver;
@@ -203,7 +214,7 @@ module _ (b : Book) (s : ℕ) (shape : Shaped b) (whole : ℕ) (asks : WalkAsks 
       }
 
   -- on to the next giver: this one has nothing left to give, or nobody wants any more
-  outer-after : (g r : ℕ) (t : Walked) → g < n → Inner b s whole g r t → inner-rest b s g r (walking n whole t) ≡ outer-rest b s (g + 1) (walking n whole t) → Outer b s whole (g + 1) r t
+  outer-after : (g r : ℕ) (t : Tables) → g < n → Inner b s whole g r t → inner-rest b s g r (walking n whole t) ≡ outer-rest b s (g + 1) (walking n whole t) → Outer b s whole (g + 1) r t
   outer-after g r t h c e =
       record {
         giver = omega arith;
@@ -215,17 +226,17 @@ module _ (b : Book) (s : ℕ) (shape : Shaped b) (whole : ℕ) (asks : WalkAsks 
         rest = sym e ∙ c .rest;
       }
 
-  pub outer-spent : (g r : ℕ) (t : Walked) → g < n → (at : ℕ) → at ≡ holdingAt (accountOf (row (t .positions) g)) s
+  pub outer-spent : (g r : ℕ) (t : Tables) → g < n → (at : ℕ) → at ≡ holdingAt (accountOf (row (t .positions) g)) s
       → min (owes d s (row (t .positions) g)) (getD (t .holdings) at 0) ≡ 0 → Inner b s whole g r t → Outer b s whole (g + 1) r t
   unfolding leftToGive
   outer-spent g r t h at ea z c =
       outer-after g r t h c (rest-spent b s hs g r (walking n whole t) (rw (row-here t g h, ← ea) z))
 
-  pub outer-next : (g r : ℕ) (t : Walked) → g < n → n ≤ r → Inner b s whole g r t → Outer b s whole (g + 1) r t
+  pub outer-next : (g r : ℕ) (t : Tables) → g < n → n ≤ r → Inner b s whole g r t → Outer b s whole (g + 1) r t
   outer-next g r t h l c = outer-after g r t h c (rest-leave b s hs g r (walking n whole t) l)
 
   -- on to the next receiver: this one wants nothing
-  pub inner-next : (g r : ℕ) (t : Walked) → r < n → wants d s (row (t .positions) r) ≡ 0 → Inner b s whole g r t → Inner b s whole g (r + 1) t
+  pub inner-next : (g r : ℕ) (t : Tables) → r < n → wants d s (row (t .positions) r) ≡ 0 → Inner b s whole g r t → Inner b s whole g (r + 1) t
   inner-next g r t h z c =
       let w : wants d s (row (take n (t .positions)) r) ≡ 0 = ap (wants d s) (row-here t r h) ∙ z in
       record {
@@ -239,10 +250,10 @@ module _ (b : Book) (s : ℕ) (shape : Shaped b) (whole : ℕ) (asks : WalkAsks 
 
   -- ── the ends ──
 
-  pub outer-end : (g r : ℕ) (t : Walked) → n ≤ g → Outer b s whole g r t → walking n whole t ≡ walked b s
+  pub outer-end : (g r : ℕ) (t : Tables) → n ≤ g → Outer b s whole g r t → walking n whole t ≡ walked b s
   outer-end g r t h c = sym (rest-none b s hs g (walking n whole t) h) ∙ c .rest
 
   -- nothing is left to give
-  pub left-by-label : (g r : ℕ) (t : Walked) → t .left ≡ 0 → Inner b s whole g r t → walking n whole t ≡ walked b s
+  pub left-by-label : (g r : ℕ) (t : Tables) → t .left ≡ 0 → Inner b s whole g r t → walking n whole t ≡ walked b s
   left-by-label g r t z c =
       sym (rest-same b s hs g r (walking n whole t) (omega (arith, ap (λ (x : Walking). x .shares) (c .rest), whole-moved))) ∙ c .rest

@@ -19,10 +19,11 @@ use Rattle.rules.specs.declared.Book.{Book}
 use Rattle.laws.specs.Taking.{without-account}
 use Rattle.laws.specs.Rows.{row, withoutBoth}
 use Rattle.laws.specs.Walk.{Walking, owes, wants, leftToGive, sizeOf, metAt, meet, serve}
-use Rattle.laws.specs.SidesOf.{owing, wanting, at-row, owing-less, wanting-less, holding-below, holding-apart}
+use Rattle.laws.specs.SidesOf.{owing, wanting, at-row, holding-below, holding-apart}
 use Rattle.laws.specs.WalkIsRun.{apart-of}
 use Rattle.laws.specs.Searching.{meet-none}
 use Rattle.laws.specs.RunKeeps.{Meets}
+use Rattle.laws.specs.RunShares.{owes-less, wants-less}
 
 -- the rows before r want nothing
 abbrev pub Full : ℕ → ℕ → List Position → ℕ → Type 0
@@ -39,14 +40,6 @@ full-more d s ps r f z j h = go (ℕ-discrete j r)
 abbrev pub Apart : ℕ → ℕ → List Position → Type 0
 Apart d s ps =
     (i j : ℕ) → i < length ps → j < length ps → 0 < owes d s (row ps i) → 0 < wants d s (row ps j) → accountOf (row ps i) ≢ accountOf (row ps j)
-
--- ── a part of k shares ──
-
-pub owes-less : (d s : ℕ) (p : Position) (k : ℕ) → owes d s (without p k) ≡ owes d s p - k
-owes-less d s p k = ap (λ (o : Side). o .shares) (owing-less d s p k)
-
-wants-less : (d s : ℕ) (p : Position) (k : ℕ) → wants d s (without p k) ≡ wants d s p - k
-wants-less d s p k = ap (λ (o : Side). o .shares) (wanting-less d s p k)
 
 -- ── two rows with k shares less ──
 

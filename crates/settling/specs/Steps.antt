@@ -11,7 +11,7 @@ use borrow.Author.Tests.{lt-ltb, le-ltb}
 use Rattle.rules.specs.declared.Book.{Book}
 use Rattle.laws.specs.Rows.{row}
 use Rattle.laws.specs.Walk.{Walking, owes, wants, leftToGive, sizeOf, metAt, meet, serve, search}
-use Rattle.laws.specs.Searching.{meet-none, meet-some}
+use Rattle.laws.specs.Searching.{meet-none, none-left, meet-some}
 use Rattle.settling.specs.Passing.{Full, serve-none, serve-full, meet-full}
 
 -- what is left to do: row g has met the rows before r, or the rows before g have met all
@@ -97,17 +97,13 @@ module _ (b : Book) (s : ℕ) (hs : s < 32) where
       let e : n - g ≡ suc (n - (g + 1)) = omega arith in
       rw (e, add-one g)
 
-  none-owed : (g : ℕ) (x : Walking) → owes d s (row (x .records) g) ≡ 0 → leftToGive d s x g ≡ 0
-  unfolding leftToGive
-  none-owed g x z = omega arith
-
   -- row g meets the rows from r on, for those before want nothing; or it owes nothing
   pub rest-enter : (g r : ℕ) (x : Walking) → g < n → r ≤ n → Full d s (x .records) r → outer-rest b s g x ≡ inner-rest b s g r x
   rest-enter g r x h l f = outer-step g x h ∙ ap (search b s (n - (g + 1)) (g + 1)) (go (decLt 0 (owes d s (row (x .records) g))))
     where
       go : Dec (0 < owes d s (row (x .records) g)) → turned g x ≡ serve b s g (n - r) r x
       go (yes o) = rw (lt-ltb 0 (owes d s (row (x .records) g)) o) (serve-full b s hs g r x l f)
-      go (no o) = rw (le-ltb 0 (owes d s (row (x .records) g)) (omega arith)) (sym (serve-none b s hs g (n - r) r x (none-owed g x (omega arith))))
+      go (no o) = rw (le-ltb 0 (owes d s (row (x .records) g)) (omega arith)) (sym (serve-none b s hs g (n - r) r x (none-left b s hs g x (omega arith))))
 
   pub rest-meet : (g r : ℕ) (x : Walking) → r < n → inner-rest b s g r x ≡ inner-rest b s g (r + 1) (meet b s g r x)
   unfolding serve

@@ -21,14 +21,14 @@ use Rattle.laws.specs.Shaped.{Shaped}
 use Rattle.laws.specs.RunKeeps.{Meets, steady-long, meets}
 use Rattle.laws.specs.RunMoney.{currency-below}
 use Rattle.settling.specs.Charges.{ChargeAsks, chargedPart, chargedParts}
-use Rattle.settling.specs.Passing.{Full, Apart, owes-less, full-still, apart-still, none-more}
+use Rattle.laws.specs.RunShares.{owes-less}
+use Rattle.settling.specs.Passing.{Full, Apart, full-still, apart-still, none-more}
 use Rattle.settling.specs.Steps.{rest-meet, rest-met, rest-grows}
-use Rattle.settling.specs.declared.walk.Walked.{Walked}
-use Rattle.settling.specs.Loops.{walking, WalkAsks, small, part-asks, Ready, Inner, row-here, open-long, whole-moved, ready-met, charge-within, holding-within}
+use Rattle.settling.specs.Loops.{Tables, walking, WalkAsks, small, part-asks, Ready, Inner, row-here, open-long, whole-moved, ready-met, charge-within, holding-within}
 
 -- rows g and r, the place of the giver's holding, and the shares k of their meeting: some, for the one has something left to give and the other
 -- wants something
-pub record Turn (b : Book) (s whole g r : ℕ) (t : Walked) (at k : ℕ) : Type 0 where
+pub record Turn (b : Book) (s whole g r : ℕ) (t : Tables) (at k : ℕ) : Type 0 where
   pub shape : Shaped b
   pub asks : WalkAsks b s whole
   pub giver : g < b .records
@@ -38,7 +38,7 @@ pub record Turn (b : Book) (s whole g r : ℕ) (t : Walked) (at k : ℕ) : Type 
   pub size : k ≡ min (min (owes (b .day) s (row (t .positions) g)) (getD (t .holdings) at 0)) (wants (b .day) s (row (t .positions) r))
   pub some : 0 < k
 
-module _ {b : Book} {s whole g r : ℕ} {t : Walked} {at k : ℕ} (u : Turn b s whole g r t at k) where
+module _ {b : Book} {s whole g r : ℕ} {t : Tables} {at k : ℕ} (u : Turn b s whole g r t at k) where
   abbrev n : ℕ
   n = b .records
 
@@ -129,7 +129,7 @@ module _ {b : Book} {s whole g r : ℕ} {t : Walked} {at k : ℕ} (u : Turn b s 
   module _ (to j : ℕ) (p q : Position) (held : List ℕ) (charges : List Mils) (eto : to ≡ holdingAt (accountOf (row (t .positions) r)) s) (ej : j ≡ k)
       (ep : p ≡ without (row (t .positions) g) j) (eq : q ≡ without (row (t .positions) r) j) (eh : held ≡ moved (t .holdings) at to k)
       (ec : charges ≡ chargedParts (t .charges) (b .currency) (row (t .positions) g) (row (t .positions) r) j) where
-    abbrev next : Walked
+    abbrev next : Tables
     next = record { positions = set (set (t .positions) g p) r q; holdings = held; charges = charges; left = t .left - k }
 
     records-are : take n (set (set (t .positions) g p) r q) ≡ withoutBoth (take n (t .positions)) g r k

@@ -1,77 +1,97 @@
 // What can be given and what is wanted (document 01, "Settlement run", and refusal 13: "deliverable shares exceed the
 // receivers' total").
-use crate::sides::gives_of;
-use crate::sides::holding_place;
+use crate::sides::owes_of;
+use crate::sides::smaller;
 use crate::sides::wants_of;
 use book::day_at;
 use book::holding_at;
 use book::position_at;
 use book::records_at;
-use rules::Book;
+use sound_positions::account_of;
 ghost use mathlib.Core.Path.{_≡_};
 ghost use mathlib.Core.Bool.{true};
 ghost use Prim.Native.Nat.{_*_, _<_, _≤_};
-ghost use lib.Dec.{ltb};
 ghost use lib.ListN.{length};
 ghost use Rattle.units.specs.Units.{mostShares};
-ghost use Rattle.rules.specs.Bounds.{mostRecords};
+ghost use Rattle.rules.specs.Words.{all};
+ghost use Rattle.rules.specs.Bounds.{accounts, mostRecords};
 ghost use Rattle.rules.specs.Layout.{bookLength, bookOf};
 ghost use Rattle.rules.specs.Sound.{sound};
 ghost use Rattle.rules.specs.Run.{deliverable, wanted};
+ghost use Rattle.settling.specs.Holders.{Holders, isNone};
 
-// Whether anything can be given, read where it stands: a run with nothing to give copies no table.
-pub fn can_give(b: &[u8], security: u8) -> bool
+// What each account holds of the security.
+fn held_of(b: &[u8], security: u8) -> [u64; 64]
+    requires { ⌜ (length (now b) ≡ bookLength) × (security < 32) ⌝ }
+    ensures { λ r. ⌜ Holders accounts (bookOf (now (b .entry)) .holdings) security r ⌝ }
+{
+    let s = security as usize;
+    let mut held = [0u64; 64];
+    let mut a: usize = 0;
+    while a < 64 {
+        held[a] = holding_at(b, a * 32 + s);
+        a += 1;
+    }
+    held
+}
+
+// Whether no account holds any.
+fn none_held(held: [u64; 64]) -> bool
+    ensures { λ r. ⌜ r ≡ all isNone held ⌝ }
+{
+    let mut a: usize = 0;
+    while a < 64 {
+        if held[a] != 0 {
+            return false;
+        }
+        a += 1;
+    }
+    true
+}
+
+// Due deliverers, by ascending number, give the smaller of their shares and what the account still holds: what was given
+// before is taken off a table of what the accounts hold. Most records are done with when their number has been compared;
+// where nothing is held, none is looked at.
+pub fn deliverable_of(b: &[u8], security: u8) -> u64
     requires { ⌜ (length (now b) ≡ bookLength) × (sound (bookOf (now b)) ≡ true) × (security < 32) ⌝ }
-    ensures { λ r. ⌜ r ≡ ltb 0 (deliverable (bookOf (now (b .entry))) security) ⌝ }
+    ensures { λ r. ⌜ (r ≡ deliverable (bookOf (now (b .entry))) security) × (r ≤ mostRecords * mostShares) ⌝ }
 {
     let day = day_at(b);
     let n = records_at(b) as usize;
-    let mut i: usize = 0;
-    while i < n {
-        let p = position_at(b, i);
-        let at = holding_place(p, security);
-        let held = holding_at(b, at);
-        if gives_of(day, security, held, p) > 0 {
-            return true;
-        }
-        i += 1;
+    let mut held = held_of(b, security);
+    if none_held(held) {
+        return 0;
     }
-    false
-}
-
-// Due deliverers, by ascending number, give the smaller of their shares and what the account still holds: in a copy of
-// the holdings, what was given before is gone.
-pub fn deliverable_of(k: Book, security: u8) -> u64
-    requires { ⌜ (sound k ≡ true) × (security < 32) ⌝ }
-    ensures { λ r. ⌜ (r ≡ deliverable k security) × (r ≤ mostRecords * mostShares) ⌝ }
-{
-    let n = k.records as usize;
-    let mut held = k.holdings;
     let mut sum: u64 = 0;
     let mut i: usize = 0;
     while i < n {
-        let p = k.positions[i];
-        let at = holding_place(p, security);
-        let old = held[at];
-        let gives = gives_of(k.day, security, old, p);
-        held[at] = old - gives;
-        sum += gives;
+        let p = position_at(b, i);
         i += 1;
+        let owed = owes_of(day, security, p);
+        if owed == 0 {
+            continue;
+        }
+        let a = account_of(p);
+        let old = held[a];
+        let gives = smaller(owed, old);
+        held[a] = old - gives;
+        sum += gives;
     }
     sum
 }
 
 // The receivers' total.
-pub fn wanted_of(k: Book, security: u8) -> u64
-    requires { ⌜ sound k ≡ true ⌝ }
-    ensures { λ r. ⌜ r ≡ wanted k security ⌝ }
+pub(crate) fn wanted_of(b: &[u8], security: u8) -> u64
+    requires { ⌜ (length (now b) ≡ bookLength) × (sound (bookOf (now b)) ≡ true) ⌝ }
+    ensures { λ r. ⌜ r ≡ wanted (bookOf (now (b .entry))) security ⌝ }
 {
-    let n = k.records as usize;
+    let day = day_at(b);
+    let n = records_at(b) as usize;
     let mut sum: u64 = 0;
     let mut i: usize = 0;
     while i < n {
-        let p = k.positions[i];
-        let wants = wants_of(k.day, security, p);
+        let p = position_at(b, i);
+        let wants = wants_of(day, security, p);
         sum += wants;
         i += 1;
     }

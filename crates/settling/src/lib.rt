@@ -6,8 +6,6 @@ mod run;
 mod sides;
 mod walk;
 
-pub use counts::can_give;
 pub use counts::deliverable_of;
-pub use run::Settled;
 pub use run::run_refusal;
 pub use run::with_run;

@@ -1,12 +1,15 @@
 // Who gives and who receives (document 01, "Settlement run"): what a record owes and wants of the security, what its
 // account holds, and the shares of a meeting.
+use book::holding_at;
 use rules::Position;
 use sound_positions::account_of;
 use sound_positions::is_due;
 use sound_positions::security_of;
 ghost use mathlib.Core.Path.{_≡_};
 ghost use Prim.Native.Nat.{min, _<_};
+ghost use lib.ListN.{length, getD};
 ghost use Rattle.rules.specs.Book.{accountOf, holdingAt};
+ghost use Rattle.rules.specs.Layout.{bookLength, bookOf};
 ghost use Rattle.laws.specs.Walk.{isDueIn, owes, wants};
 
 fn is_due_in(day: u16, security: u8, p: Position) -> bool
@@ -66,10 +69,17 @@ pub fn smaller(a: u64, b: u64) -> u64
     b
 }
 
-// What a giver, whose account holds `held`, has left to give.
-pub fn gives_of(day: u16, security: u8, held: u64, giver: Position) -> u64
-    ensures { λ r. ⌜ r ≡ min (owes day security giver) held ⌝ }
+// What a giver has left to give: its shares, or what its account holds if that is less. The holding is read only where
+// shares are owed.
+pub fn gives_of(b: &[u8], day: u16, security: u8, giver: Position) -> u64
+    requires { ⌜ (length (now b) ≡ bookLength) × (security < 32) ⌝ }
+    ensures { λ r. ⌜ r ≡ min (owes day security giver) (getD (bookOf (now (b .entry)) .holdings) (holdingAt (accountOf giver) security) 0) ⌝ }
 {
     let owed = owes_of(day, security, giver);
+    if owed == 0 {
+        return 0;
+    }
+    let at = holding_place(giver, security);
+    let held = holding_at(b, at);
     smaller(owed, held)
 }

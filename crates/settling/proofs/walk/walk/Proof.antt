@@ -1,41 +1,40 @@
--- `settling::walk::walk` meets its contract. What is left to do from here gives what the whole walk gives: `Outer` between two givers, `Inner`
--- while row g gives. A turn of the inner loop passes a receiver that wants nothing, or is a meeting, behind which the giver owes less: so its
--- measure falls. Where nothing is left to give, what is left to do does nothing (`left-by-label`). Assumes nothing.
+-- `settling::walk::walk` meets its contract. What is left to do from here gives what the whole walk gives: `Outside` between two givers, `Inside`
+-- while row g gives; the inner loop keeps this for whatever book the walk began with. A turn of the inner loop passes a receiver that wants nothing,
+-- or is a meeting, behind which the giver owes less: so its measure falls. Where nothing is left to give, what is left to do does nothing
+-- (`label-end`). Assumes nothing.
 use borrow.Author.Needs.{needs}
 use native.Mathlib.Omega.{arith}
-use mathlib.Core.Path.{sym, ap₂, subst, _∙_}
+use mathlib.Core.Path.{_≡_, sym, ap, ap₂, _∙_}
 use mathlib.Core.Logic.{⊎-elim}
-use Prim.Native.Nat.{_+_, _-_, min, _≤_}
-use lib.ListN.{set}
-use lib.IntN.{natAbs}
-use Rattle.fields.specs.Lengths.{unmapped}
-use Rattle.units.specs.Units.{sharesOf}
+use Prim.Native.Nat.{_+_, _-_, min, _<_, _≤_}
+use lib.ListN.{getD}
+use Rattle.rules.specs.Book.{accountOf, holdingAt}
+use Rattle.rules.specs.Layout.{bookOf}
+use Rattle.rules.specs.declared.Book.{Book}
 use Rattle.laws.specs.Rows.{row}
-use Rattle.laws.specs.Walk.{owes}
-use Rattle.laws.specs.Shaped.{Shaped}
+use Rattle.laws.specs.Walk.{owes, wants}
 use Rattle.laws.specs.SoundRun.{sound-runnable}
-use Rattle.settling.specs.Charges.{ChargeAsks, first-fits, second-fits, both-charged}
-use Rattle.settling.specs.Loops.{Outer, Inner, outer-start, inner-start, inner-next, outer-spent, outer-next, outer-end, left-by-label}
-use Rattle.settling.specs.Turns.{Turn, inner-met, less-owed, within-left, giver-asks, charges-ask, holds-enough, holds-room}
+use Rattle.settling.specs.Bytes.{shaped, Started, gives-same, Outside, Inside, outside-start, inside-start, inside-next, outside-next, outside-spent, outside-end, meet-asks, meet-left, inside-met, meet-less, label-end}
 use Rattle.settling.proofs.walk.walk.Statement.{statement}
 use Rattle.settling.proofs.walk.walk.Tie as tie
 
 abbrev Inv-receivers : tie.InvT-receivers
-Inv-receivers k security all n codes t₀ g r₀ t r = Inner k security all g r t
+Inv-receivers b₀ security all day n left₀ g r₀ b left r =
+    (k : Book) → Started k security all day n → Inside k security all g r₀ b₀ left₀ → Inside k security all g r b left
 
 abbrev μ-receivers : tie.MeasureT-receivers
-μ-receivers k security all n codes t₀ g r₀ t r = (n - r) + owes (k .day) security (row (t .positions) g)
+μ-receivers b₀ security all day n left₀ g r₀ b left r = (n - r) + owes day security (row (bookOf b .positions) g)
 
 abbrev Inv-givers : tie.InvT-givers
-Inv-givers k security all n codes t₀ g₀ r₀ t g r = Outer k security all g r t
+Inv-givers b₀ security all day n left₀ g₀ r₀ b left g r = Outside (bookOf b₀) security all g r b left
 
 abbrev μ-givers : tie.MeasureT-givers
-μ-givers k security all n codes t₀ g₀ r₀ t g r = n - g
+μ-givers b₀ security all day n left₀ g₀ r₀ b left g r = n - g
 
--- ── places: the head of the inner loop, before a giver is known to have something and before a meeting; the head of the outer loop; the start ──
+-- ── places: the start, the head of the outer loop and of the inner one, before a giver is known to have something and before a meeting ──
 
 abbrev start : tie.At-givers Inv-receivers μ-receivers Inv-givers μ-givers → tie.Start Inv-receivers μ-receivers Inv-givers μ-givers
-start c = c .before .before .before .before
+start c = c .before .before .before .before .before .before
 
 abbrev outer : tie.At-receivers Inv-receivers μ-receivers Inv-givers μ-givers → tie.At-givers Inv-receivers μ-receivers Inv-givers μ-givers
 outer c = c .before .before
@@ -43,69 +42,88 @@ outer c = c .before .before
 abbrev head : tie.After-gives-of Inv-receivers μ-receivers Inv-givers μ-givers → tie.At-receivers Inv-receivers μ-receivers Inv-givers μ-givers
 head c = c .before .before .before .before .before
 
-abbrev inner : tie.After-smaller Inv-receivers μ-receivers Inv-givers μ-givers → tie.At-receivers Inv-receivers μ-receivers Inv-givers μ-givers
-inner c = head (c .before .before .before .before .before)
+abbrev gave : tie.After-wants-of Inv-receivers μ-receivers Inv-givers μ-givers → tie.After-gives-of Inv-receivers μ-receivers Inv-givers μ-givers
+gave c = c .before .before .before .before
 
--- ── the lengths of the tables ──
+abbrev sized : tie.After-meet Inv-receivers μ-receivers Inv-givers μ-givers → tie.After-smaller Inv-receivers μ-receivers Inv-givers μ-givers
+sized c = c .before .before
 
-shape : (c : tie.Start Inv-receivers μ-receivers Inv-givers μ-givers) → Shaped (c .args .k)
-shape c =
-    record {
-      currency = search needs;
-      positions = search (needs, unmapped);
-      holdings = search needs;
-      charges = search (needs, unmapped);
-      trades = search (needs, unmapped);
-    }
+-- ── the book that the walk began with, and the bytes in the inner loop ──
 
-few : (c : tie.Start Inv-receivers μ-receivers Inv-givers μ-givers) → c .args .k .records ≤ 1024
-few c = sound-runnable (c .args .k) (c .pre .ok) .few
+abbrev book : tie.At-givers Inv-receivers μ-receivers Inv-givers μ-givers → Book
+book c = bookOf (start c .args .b .now)
+
+started : (c : tie.At-givers Inv-receivers μ-receivers Inv-givers μ-givers) → Started (book c) (start c .args .security) (start c .args .all) (c .before .before .before .day-at .result) (c .before .records-at .result)
+started c =
+    record { shape = shaped (start c .args .b .now); asks = start c .pre .1; day = c .before .before .before .day-at .ensures; count = c .before .records-at .ensures }
+
+few : (c : tie.At-givers Inv-receivers μ-receivers Inv-givers μ-givers) → c .before .records-at .result ≤ 1024
+few c = omega (arith, c .before .records-at .ensures, sound-runnable (book c) (start c .pre .1 .ok) .few)
+
+entered : (c : tie.In-givers Inv-receivers μ-receivers Inv-givers μ-givers) → Inside (book (c .before)) (start (c .before) .args .security) (start (c .before) .args .all) (c .before .givers .g) (c .before .givers .r) (c .before .givers .b) (c .before .givers .left)
+entered c =
+    let l = c .before .givers in
+    inside-start (started (c .before)) (l .g) (l .r) (l .b) (l .left) (c .givers-test .taken) (l .inv)
+
+inside : (c : tie.At-receivers Inv-receivers μ-receivers Inv-givers μ-givers) → Inside (book (outer c)) (start (outer c) .args .security) (start (outer c) .args .all) (outer c .givers .g) (c .receivers .r) (c .receivers .b) (c .receivers .left)
+inside c = c .receivers .inv (book (outer c)) (started (outer c)) (entered (c .before))
+
+-- ── what the giver has left to give, what the receiver wants, and the shares of their meeting ──
+
+has : (c : tie.After-gives-of Inv-receivers μ-receivers Inv-givers μ-givers)
+    → c .gives-of .result ≡ min (owes (outer (head c) .before .before .before .day-at .result) (start (outer (head c)) .args .security) (row (bookOf (head c .receivers .b) .positions) (outer (head c) .givers .g)))
+    (getD (bookOf (head c .receivers .b) .holdings) (holdingAt (accountOf (row (bookOf (head c .receivers .b) .positions) (outer (head c) .givers .g))) (start (outer (head c)) .args .security)) 0)
+has c =
+    gives-same (outer (head c) .before .before .before .day-at .result) (start (outer (head c)) .args .security) (bookOf (head c .receivers .b) .holdings) (c .gives-of .ensures) (c .before .before .position-at .ensures)
+
+wanted : (c : tie.After-wants-of Inv-receivers μ-receivers Inv-givers μ-givers)
+    → c .wants-of .result ≡ wants (outer (head (gave c)) .before .before .before .day-at .result) (start (outer (head (gave c))) .args .security) (row (bookOf (head (gave c) .receivers .b) .positions) (head (gave c) .receivers .r))
+wanted c =
+    let o = outer (head (gave c)) in
+    c .wants-of .ensures ∙ ap (wants (o .before .before .before .day-at .result) (start o .args .security)) (c .before .position-at2 .ensures)
+
+abbrev asked : tie.After-smaller Inv-receivers μ-receivers Inv-givers μ-givers → tie.After-wants-of Inv-receivers μ-receivers Inv-givers μ-givers
+asked c = c .before .before
+
+size : (c : tie.After-smaller Inv-receivers μ-receivers Inv-givers μ-givers)
+    → c .smaller .result ≡ min (min (owes (outer (head (gave (asked c))) .before .before .before .day-at .result) (start (outer (head (gave (asked c)))) .args .security) (row (bookOf (head (gave (asked c)) .receivers .b) .positions) (outer (head (gave (asked c))) .givers .g)))
+    (getD (bookOf (head (gave (asked c)) .receivers .b) .holdings) (holdingAt (accountOf (row (bookOf (head (gave (asked c)) .receivers .b) .positions) (outer (head (gave (asked c))) .givers .g))) (start (outer (head (gave (asked c)))) .args .security)) 0))
+    (wants (outer (head (gave (asked c))) .before .before .before .day-at .result) (start (outer (head (gave (asked c)))) .args .security) (row (bookOf (head (gave (asked c)) .receivers .b) .positions) (head (gave (asked c)) .receivers .r)))
+size c = c .smaller .ensures ∙ ap₂ min (has (gave (asked c))) (wanted (asked c))
+
+some : (c : tie.After-smaller Inv-receivers μ-receivers Inv-givers μ-givers) → 0 < c .smaller .result
+some c = omega (arith, c .smaller .ensures, c .before .if2 .left, asked c .before .before .before .if1 .left)
 
 -- ── the outer loop ──
+
+day-at-requires : tie.Need-day-at-requires Inv-receivers μ-receivers Inv-givers μ-givers
+day-at-requires c κs = c .before .before .pre .0
+
+records-at-requires : tie.Need-records-at-requires Inv-receivers μ-receivers Inv-givers μ-givers
+records-at-requires c κs = c .before .before .before .before .pre .0
 
 cast-n : tie.Need-cast-n Inv-receivers μ-receivers Inv-givers μ-givers
 cast-n c = search needs
 
-unwalked-requires : tie.Need-unwalked-requires Inv-receivers μ-receivers Inv-givers μ-givers
-unwalked-requires c κs = search needs
-
 givers-holds : tie.Need-givers-holds Inv-receivers μ-receivers Inv-givers μ-givers
 givers-holds c =
-    let s = c .before .before .before in
-    let e = c .unwalked .ensures in
-    outer-start (s .args .k) (s .args .security) (shape s) (s .args .all) (s .pre) (c .unwalked .result) (e .0) (e .1) (e .2) (e .3)
+    let s = c .before .before .before .before .before in outside-start (s .args .b .now) (s .args .security) (s .args .all) (s .pre .0) (s .pre .1)
 
 receivers-holds : tie.Need-receivers-holds Inv-receivers μ-receivers Inv-givers μ-givers
-receivers-holds c =
-    let s = start (c .before) in
-    let l = c .before .givers in
-    inner-start (s .args .k) (s .args .security) (shape s) (s .args .all) (s .pre) (l .g) (l .r) (l .t) (c .givers-test .taken) (l .inv)
+receivers-holds c = λ k st i. i
 
--- ── the inner loop: what the giver has left to give, and what the receiver wants ──
+-- ── the inner loop ──
 
-mul-giver : tie.Need-mul-giver Inv-receivers μ-receivers Inv-givers μ-givers
-mul-giver c = omega (arith, few (start (outer (c .before))))
-
-element-copy-out-giver : tie.Need-element-copy-out-giver Inv-receivers μ-receivers Inv-givers μ-givers
-element-copy-out-giver c = omega (arith, few (start (outer (c .before))))
-
-holding-place-requires : tie.Need-holding-place-requires Inv-receivers μ-receivers Inv-givers μ-givers
-holding-place-requires c κs = start (outer (c .before .before)) .pre .security
-
-mul-gives-of : tie.Need-mul-gives-of Inv-receivers μ-receivers Inv-givers μ-givers
-mul-gives-of c = omega (arith, c .holding-place .ensures .1)
-
-element-copy-out-gives-of : tie.Need-element-copy-out-gives-of Inv-receivers μ-receivers Inv-givers μ-givers
-element-copy-out-gives-of c = c .holding-place .ensures .1
+position-at-requires : tie.Need-position-at-requires Inv-receivers μ-receivers Inv-givers μ-givers
+position-at-requires c κs = let h = c .before .before in (inside h .long, omega (arith, few (outer h), h .before .givers-test .taken))
 
 gives-of-requires : tie.Need-gives-of-requires Inv-receivers μ-receivers Inv-givers μ-givers
-gives-of-requires c κs = search needs
+gives-of-requires c κs = let h = c .before .before .before .before in (inside h .long, start (outer h) .pre .1 .security)
 
-mul-receiver : tie.Need-mul-receiver Inv-receivers μ-receivers Inv-givers μ-givers
-mul-receiver c = omega (arith, few (start (outer (head (c .before)))))
-
-element-copy-out-receiver : tie.Need-element-copy-out-receiver Inv-receivers μ-receivers Inv-givers μ-givers
-element-copy-out-receiver c = omega (arith, few (start (outer (head (c .before)))))
+position-at-requires-2 : tie.Need-position-at-requires-2 Inv-receivers μ-receivers Inv-givers μ-givers
+position-at-requires-2 c κs =
+    let h = head (c .before .before) in
+    (inside h .long, omega (arith, few (outer h), c .before .before .before .before .before .before .receivers-test .taken))
 
 wants-of-requires : tie.Need-wants-of-requires Inv-receivers μ-receivers Inv-givers μ-givers
 wants-of-requires c κs = search needs
@@ -113,180 +131,101 @@ wants-of-requires c κs = search needs
 -- a receiver that wants nothing is passed over
 
 add-r : tie.Need-add-r Inv-receivers μ-receivers Inv-givers μ-givers
-add-r c = omega (arith, few (start (outer (head (c .before .before .before .before)))))
+add-r c =
+    let h = head (gave (c .before)) in
+    omega (arith, few (outer h), gave (c .before) .before .before .before .before .receivers-test .taken)
 
 receivers-less : tie.Need-receivers-less Inv-receivers μ-receivers Inv-givers μ-givers
-receivers-less c = omega arith
+receivers-less c = omega (arith, gave (c .before) .before .before .before .before .receivers-test .taken)
 
 receivers-again : tie.Need-receivers-again Inv-receivers μ-receivers Inv-givers μ-givers
 receivers-again c =
-    let h = head (c .before .before .before .before) in
-    let s = start (outer h) in
-    inner-next (s .args .k) (s .args .security) (shape s) (s .args .all) (s .pre) (outer h .givers .g) (h .receivers .r) (h .receivers .t)
-    (c .before .before .before .before .before .before .before .before .receivers-test .taken) (sym (c .before .wants-of .ensures) ∙ c .if2 .taken) (h .receivers .inv)
+    let g = gave (c .before) in
+    let h = head g in
+    λ k st i. inside-next st (outer h .givers .g) (h .receivers .r) (h .receivers .b) (h .receivers .left) (g .before .before .before .before .receivers-test .taken) (sym (wanted (c .before)) ∙ c .if2 .taken) (h .receivers .inv k st i)
 
 -- ── a meeting ──
 
 smaller-requires : tie.Need-smaller-requires Inv-receivers μ-receivers Inv-givers μ-givers
 smaller-requires c κs = search needs
 
--- rows g and r with the shares of their meeting
-turn : (c : tie.After-smaller Inv-receivers μ-receivers Inv-givers μ-givers)
-    → Turn (start (outer (inner c)) .args .k) (start (outer (inner c)) .args .security) (start (outer (inner c)) .args .all)
-    (outer (inner c) .givers .g) (inner c .receivers .r) (inner c .receivers .t) (c .before .before .before .before .before .before .before .holding-place .result) (c .smaller .result)
-turn c =
-    record {
-      shape = shape (start (outer (inner c)));
-      asks = start (outer (inner c)) .pre;
-      giver = inner c .before .givers-test .taken;
-      receiver = c .before .before .before .before .before .before .before .before .before .receivers-test .taken;
-      inner = inner c .receivers .inv;
-      place = c .before .before .before .before .before .before .before .holding-place .ensures .0;
-      size = c .smaller .ensures ∙ ap₂ min (c .before .before .before .before .before .gives-of .ensures) (c .before .before .wants-of .ensures);
-      some = omega (arith, c .smaller .ensures, c .before .before .before .before .if1 .left, c .before .if2 .left);
-    }
+meet-requires : tie.Need-meet-requires Inv-receivers μ-receivers Inv-givers μ-givers
+meet-requires c κs =
+    let v = c .before in
+    let g = gave (asked v) in
+    let h = head g in
+    (inside h .long, meet-asks (started (outer h)) (outer h .givers .g) (h .receivers .r) (h .receivers .b) (h .receivers .left) (v .smaller .result) (h .before .givers-test .taken) (g .before .before .before .before .receivers-test .taken) (size v) (some v) (inside h))
 
-of-requires : tie.Need-of-requires Inv-receivers μ-receivers Inv-givers μ-givers
-of-requires c κs =
-    let asks = giver-asks (turn c) in
-    omega (arith, asks .within, asks .shares)
-
--- what the parts ask, of the shares as the code has them
-asked : (c : tie.After-of Inv-receivers μ-receivers Inv-givers μ-givers)
-    → ChargeAsks (inner (c .before) .receivers .t .charges) (start (outer (inner (c .before))) .args .k .currency)
-    (row (inner (c .before) .receivers .t .positions) (outer (inner (c .before)) .givers .g)) (row (inner (c .before) .receivers .t .positions) (inner (c .before) .receivers .r))
-    (natAbs (sharesOf (c .of .result)))
-asked c = subst (ChargeAsks _ _ _ _) (sym (c .of .ensures .1)) (charges-ask (turn (c .before)))
-
-holding-place-requires-2 : tie.Need-holding-place-requires-2 Inv-receivers μ-receivers Inv-givers μ-givers
-holding-place-requires-2 c κs = start (outer (inner (c .before))) .pre .security
-
-rest-of-requires : tie.Need-rest-of-requires Inv-receivers μ-receivers Inv-givers μ-givers
-rest-of-requires c κs = asked (c .before) .giver
-
-mul-t : tie.Need-mul-t Inv-receivers μ-receivers Inv-givers μ-givers
-mul-t c = omega (arith, few (start (outer (inner (c .before .before .before)))))
-
-element-set-from-t : tie.Need-element-set-from-t Inv-receivers μ-receivers Inv-givers μ-givers
-element-set-from-t c = omega (arith, few (start (outer (inner (c .before .before .before)))))
-
-rest-of-requires-2 : tie.Need-rest-of-requires-2 Inv-receivers μ-receivers Inv-givers μ-givers
-rest-of-requires-2 c κs = asked (c .before .before) .receiver
-
-mul-t22 : tie.Need-mul-t22 Inv-receivers μ-receivers Inv-givers μ-givers
-mul-t22 c = omega (arith, few (start (outer (inner (c .before .before .before .before)))), turn (c .before .before .before .before) .receiver)
-
-element-set-from-t-2 : tie.Need-element-set-from-t-2 Inv-receivers μ-receivers Inv-givers μ-givers
-element-set-from-t-2 c = omega (arith, few (start (outer (inner (c .before .before .before .before)))), turn (c .before .before .before .before) .receiver)
-
-move-shares-requires : tie.Need-move-shares-requires Inv-receivers μ-receivers Inv-givers μ-givers
-move-shares-requires c κs =
-    let u = turn (c .before .before .before .before .before) in
-    let to = c .before .before .before .holding-place2 in
-    (c .before .before .before .before .before .before .before .before .before .before .before .before .holding-place .ensures .1, to .ensures .1, holds-enough u, holds-room u (to .result) (to .ensures .0))
-
--- the giver's part is charged, then the receiver's
-
-place-of-requires : tie.Need-place-of-requires Inv-receivers μ-receivers Inv-givers μ-givers
-place-of-requires c κs = asked (c .before .before .before .before .before) .giver-code
-
-mul-with-part : tie.Need-mul-with-part Inv-receivers μ-receivers Inv-givers μ-givers
-mul-with-part c = omega (arith, c .place-of .ensures .1)
-
-element-copy-out-with-part : tie.Need-element-copy-out-with-part Inv-receivers μ-receivers Inv-givers μ-givers
-element-copy-out-with-part c = c .place-of .ensures .1
-
-with-part-requires : tie.Need-with-part-requires Inv-receivers μ-receivers Inv-givers μ-givers
-with-part-requires c κs =
-    let a = asked (c .before .before .before .before .before .before .before) in
-    (a .giver, first-fits _ _ _ _ _ a (c .before .place-of .result) (c .before .place-of .ensures .1))
-
-mul-t-2 : tie.Need-mul-t-2 Inv-receivers μ-receivers Inv-givers μ-givers
-mul-t-2 c = omega (arith, c .before .before .place-of .ensures .1)
-
-element-set-from-t-3 : tie.Need-element-set-from-t-3 Inv-receivers μ-receivers Inv-givers μ-givers
-element-set-from-t-3 c = c .before .before .place-of .ensures .1
-
-place-of-requires-2 : tie.Need-place-of-requires-2 Inv-receivers μ-receivers Inv-givers μ-givers
-place-of-requires-2 c κs = asked (c .before .before .before .before .before .before .before .before) .receiver-code
-
-mul-with-part-2 : tie.Need-mul-with-part-2 Inv-receivers μ-receivers Inv-givers μ-givers
-mul-with-part-2 c = omega (arith, c .place-of2 .ensures .1)
-
-element-copy-out-with-part-2 : tie.Need-element-copy-out-with-part-2 Inv-receivers μ-receivers Inv-givers μ-givers
-element-copy-out-with-part-2 c = c .place-of2 .ensures .1
-
-with-part-requires-2 : tie.Need-with-part-requires-2 Inv-receivers μ-receivers Inv-givers μ-givers
-with-part-requires-2 c κs =
-    let a = asked (c .before .before .before .before .before .before .before .before .before .before) in
-    let x = c .before .before .before .before .place-of in
-    let v = c .before .before .with-part in
-    let y = c .before .place-of2 in
-    (a .receiver, second-fits _ _ _ _ _ a (x .result) (x .ensures .1) (v .result) (v .ensures .1) (y .result) (y .ensures .1))
-
-mul-t22-2 : tie.Need-mul-t22-2 Inv-receivers μ-receivers Inv-givers μ-givers
-mul-t22-2 c = omega (arith, c .before .before .place-of2 .ensures .1)
-
-element-set-from-t-4 : tie.Need-element-set-from-t-4 Inv-receivers μ-receivers Inv-givers μ-givers
-element-set-from-t-4 c = c .before .before .place-of2 .ensures .1
-
-sub-t : tie.Need-sub-t Inv-receivers μ-receivers Inv-givers μ-givers
-sub-t c = within-left (turn (c .before .before .before .before .before .before .before .before .before .before .before .before))
-
--- the loop keeps what it keeps
-met : (c : tie.After-with-part2 Inv-receivers μ-receivers Inv-givers μ-givers)
-    → Inner (start (outer (inner (c .before .before .before .before .before .before .before .before .before .before .before .before))) .args .k) (start (outer (inner (c .before .before .before .before .before .before .before .before .before .before .before .before))) .args .security) (start (outer (inner (c .before .before .before .before .before .before .before .before .before .before .before .before))) .args .all)
-    (outer (inner (c .before .before .before .before .before .before .before .before .before .before .before .before)) .givers .g) (inner (c .before .before .before .before .before .before .before .before .before .before .before .before) .receivers .r) (
-    record {
-      positions = set (set (inner (c .before .before .before .before .before .before .before .before .before .before .before .before) .receivers .t .positions) (outer (inner (c .before .before .before .before .before .before .before .before .before .before .before .before)) .givers .g) (c .before .before .before .before .before .before .before .before .before .rest-of .result)) (inner (c .before .before .before .before .before .before .before .before .before .before .before .before) .receivers .r) (c .before .before .before .before .before .before .before .before .rest-of2 .result);
-      holdings = c .before .before .before .before .before .before .move-shares .last .0;
-      charges = set (set (inner (c .before .before .before .before .before .before .before .before .before .before .before .before) .receivers .t .charges) (c .before .before .before .before .before .place-of .result) (c .before .before .before .with-part .result)) (c .before .before .place-of2 .result) (c .with-part2 .result);
-      left = inner (c .before .before .before .before .before .before .before .before .before .before .before .before) .receivers .t .left - c .before .before .before .before .before .before .before .before .before .before .before .before .smaller .result;
-    }
-    )
-met c =
-    inner-met (turn (c .before .before .before .before .before .before .before .before .before .before .before .before)) (c .before .before .before .before .before .before .before .before .before .before .holding-place2 .result) _ (c .before .before .before .before .before .before .before .before .before .rest-of .result) (c .before .before .before .before .before .before .before .before .rest-of2 .result) _ _
-    (c .before .before .before .before .before .before .before .before .before .before .holding-place2 .ensures .0) (c .before .before .before .before .before .before .before .before .before .before .before .of .ensures .1) (c .before .before .before .before .before .before .before .before .before .rest-of .ensures) (c .before .before .before .before .before .before .before .before .rest-of2 .ensures) (c .before .before .before .before .before .before .move-shares .ensures)
-    (both-charged _ _ _ _ _ (c .before .before .before .before .before .place-of .result) (c .before .before .place-of2 .result) (c .before .before .before .with-part .result) (c .with-part2 .result)
-    (c .before .before .before .before .before .place-of .ensures .0) (c .before .before .before .with-part .ensures .0) (c .before .before .place-of2 .ensures .0) (c .with-part2 .ensures .0))
+sub-left : tie.Need-sub-left Inv-receivers μ-receivers Inv-givers μ-givers
+sub-left c =
+    let v = sized (c .before .before) in
+    let g = gave (asked v) in
+    let h = head g in
+    meet-left (started (outer h)) (outer h .givers .g) (h .receivers .r) (h .receivers .b) (h .receivers .left) (v .smaller .result) (h .before .givers-test .taken) (g .before .before .before .before .receivers-test .taken) (size v) (some v) (inside h)
 
 receivers-less-2 : tie.Need-receivers-less-2 Inv-receivers μ-receivers Inv-givers μ-givers
 receivers-less-2 c =
-    omega (arith, less-owed (turn (c .before .before .before .before .before .before .before .before .before .before .before .before .before)) _ (c .before .before .before .before .before .before .before .before .before .before .rest-of .result) (c .before .before .before .before .before .before .before .before .before .rest-of2 .result) (c .before .before .before .before .before .before .before .before .before .before .before .before .of .ensures .1) (c .before .before .before .before .before .before .before .before .before .before .rest-of .ensures))
+    let m = c .before .before .before in
+    let v = sized m in
+    let g = gave (asked v) in
+    let h = head g in
+    omega (arith, meet-less (started (outer h)) (outer h .givers .g) (h .receivers .r) (h .receivers .b) (h .receivers .left) (v .smaller .result) (h .before .givers-test .taken) (g .before .before .before .before .receivers-test .taken) (size v) (some v) (inside h) (m .meet .last .0) (m .meet .kept .0) (m .meet .ensures))
 
 receivers-again-2 : tie.Need-receivers-again-2 Inv-receivers μ-receivers Inv-givers μ-givers
-receivers-again-2 c = met (c .before)
+receivers-again-2 c =
+    let m = c .before .before .before in
+    let v = sized m in
+    let g = gave (asked v) in
+    let h = head g in
+    λ k st i. inside-met st (outer h .givers .g) (h .receivers .r) (h .receivers .b) (h .receivers .left) (v .smaller .result) (h .before .givers-test .taken) (g .before .before .before .before .receivers-test .taken) (size v) (some v) (h .receivers .inv k st i) (m .meet .last .0) (m .meet .kept .0) (m .meet .ensures)
 
 -- ── the next giver, and the end ──
 
 add-g : tie.Need-add-g Inv-receivers μ-receivers Inv-givers μ-givers
-add-g c = omega (arith, few (start (outer (c .before))))
+add-g c = omega (arith, few (outer (c .before)), c .before .before .givers-test .taken)
 
 givers-less : tie.Need-givers-less Inv-receivers μ-receivers Inv-givers μ-givers
-givers-less c = omega arith
+givers-less c = omega (arith, c .before .before .givers-test .taken)
 
 givers-again : tie.Need-givers-again Inv-receivers μ-receivers Inv-givers μ-givers
 givers-again c =
-    let s = start (outer (c .before)) in
-    let l = c .before .receivers in
-    let g = outer (c .before) .givers .g in
-    let h = c .before .before .givers-test .taken in
+    let h = c .before in
+    let l = h .receivers in
+    let st = started (outer h) in
+    let g = outer h .givers .g in
+    let t = h .before .givers-test .taken in
     ⊎-elim
-    (λ w. outer-next (s .args .k) (s .args .security) (shape s) (s .args .all) (s .pre) g (l .r) (l .t) h (w .left) (l .inv))
-    (λ w. outer-spent (s .args .k) (s .args .security) (shape s) (s .args .all) (s .pre) g (l .r) (l .t) h (w .2 .result) (w .2 .ensures .0) (sym (w .4 .ensures) ∙ w .5 .taken) (l .inv))
+    (λ w. outside-next st g (l .r) (l .b) (l .left) t (w .left) (inside h))
+    (λ w.
+    let x : tie.After-gives-of Inv-receivers μ-receivers Inv-givers μ-givers =
+    record {
+      before = record { before = record { before = record { before = record { before = h; receivers-test = w .0 }; position-at-arg = w .1 }; position-at = w .2 }; gives-of-arg = w .3 };
+      gives-of = w .4;
+    } in
+    outside-spent st g (l .r) (l .b) (l .left) t (sym (has x) ∙ w .5 .taken) (inside h))
     (c .receivers-test .came)
+
+same-length : tie.Need-same-length Inv-receivers μ-receivers Inv-givers μ-givers
+same-length c = omega (arith, c .before .givers .inv .long, start (c .before) .pre .0)
 
 returns : tie.Need-returns Inv-receivers μ-receivers Inv-givers μ-givers
 returns c =
-    let s = start (c .before) in
     let l = c .before .givers in
-    (outer-end (s .args .k) (s .args .security) (shape s) (s .args .all) (s .pre) (l .g) (l .r) (l .t) (c .givers-test .left) (l .inv), l .inv .some)
+    outside-end (started (c .before)) (l .g) (l .r) (l .b) (l .left) (c .givers-test .left) (l .inv)
+
+same-length-2 : tie.Need-same-length-2 Inv-receivers μ-receivers Inv-givers μ-givers
+same-length-2 c =
+    let m = c .before .before .before in
+    let h = head (gave (asked (sized m))) in
+    omega (arith, m .meet .kept .0, inside h .long, start (outer h) .pre .0)
 
 returns-2 : tie.Need-returns-2 Inv-receivers μ-receivers Inv-givers μ-givers
 returns-2 c =
-    let h = inner (c .before .before .before .before .before .before .before .before .before .before .before .before .before) in
-    let s = start (outer h) in
-    (left-by-label (s .args .k) (s .args .security) (shape s) (s .args .all) (s .pre) (outer h .givers .g) (h .receivers .r) _ (c .if3 .taken) (met (c .before)), met (c .before) .some)
+    let m = c .before .before .before in
+    let v = sized m in
+    let g = gave (asked v) in
+    let h = head g in
+    label-end (started (outer h)) (outer h .givers .g) (h .receivers .r) (h .receivers .b) (h .receivers .left) (v .smaller .result) (h .before .givers-test .taken) (g .before .before .before .before .receivers-test .taken) (size v) (some v) (inside h) (m .meet .last .0) (m .meet .kept .0) (m .meet .ensures) (c .if3 .taken)
 
 pub walk-spec : {M : Type 1} → statement M
 walk-spec =
@@ -296,49 +235,27 @@ walk-spec =
     μ-receivers
     Inv-givers
     μ-givers
+    day-at-requires
+    records-at-requires
     cast-n
-    unwalked-requires
     givers-holds
     receivers-holds
-    mul-giver
-    element-copy-out-giver
-    holding-place-requires
-    mul-gives-of
-    element-copy-out-gives-of
+    position-at-requires
     gives-of-requires
-    mul-receiver
-    element-copy-out-receiver
+    position-at-requires-2
     wants-of-requires
     add-r
     receivers-less
     receivers-again
     smaller-requires
-    of-requires
-    holding-place-requires-2
-    rest-of-requires
-    mul-t
-    element-set-from-t
-    rest-of-requires-2
-    mul-t22
-    element-set-from-t-2
-    move-shares-requires
-    place-of-requires
-    mul-with-part
-    element-copy-out-with-part
-    with-part-requires
-    mul-t-2
-    element-set-from-t-3
-    place-of-requires-2
-    mul-with-part-2
-    element-copy-out-with-part-2
-    with-part-requires-2
-    mul-t22-2
-    element-set-from-t-4
-    sub-t
+    meet-requires
+    sub-left
     receivers-less-2
     receivers-again-2
     add-g
     givers-less
     givers-again
+    same-length
     returns
+    same-length-2
     returns-2)
