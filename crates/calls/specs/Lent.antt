@@ -7,24 +7,16 @@ use borrow.Author.Tests.{eq-eqb, ne-eqb, eqb-true, not-false}
 use lib.Dec.{eqb}
 use lib.ListN.{length}
 use Rattle.rules.specs.Words.{first}
-use Rattle.fields.specs.Codec.{number, read-long}
-use Rattle.rules.specs.Layout.{position, amount, trade, bookLength, bookOf, bytesOf}
+use Rattle.rules.specs.Layout.{bookLength, bookOf, bytesOf}
 use Rattle.rules.specs.Sound.{sound, notSound}
 use Rattle.rules.specs.Calls.{Call, tests, answerSound, after, answerBytes, afterBytes}
 use Rattle.laws.specs.Cases.{both-hold, cond-yes, cond-no}
 use Rattle.laws.specs.Shaped.{Shaped}
+use Rattle.settling.specs.Bytes.{shaped as tables-shaped}
 
 -- the tables of a book that was read have their lengths
 pub shaped : (bs : List ℕ) → Shaped (bookOf bs)
-unfolding bookOf
-shaped bs =
-    record {
-      currency = read-long (number 1) 32 _;
-      positions = read-long position 1_024 _;
-      holdings = read-long (number 8) 2_048 _;
-      charges = read-long amount 256 _;
-      trades = read-long trade 256 _;
-    }
+shaped bs = tables-shaped bs
 
 module _ (bs : List ℕ) (fine : notSound bs ≡ false) where
   parts : (eqb (length bs) bookLength ≡ true) × (sound (bookOf bs) ≡ true)

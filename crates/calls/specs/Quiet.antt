@@ -2,19 +2,17 @@
 use mathlib.Core.Path.{_≡_, refl, sym, ap, ap₂, _∙_}
 use mathlib.Core.Bool.{Bool, true, false}
 use mathlib.Core.List.{List}
-use Prim.Native.Nat.{ℕ, suc, _+_, _-_, _^_, _<_, _≤_}
+use Prim.Native.Nat.{ℕ, suc, _+_, _-_, _≤_}
 use native.Mathlib.Omega.{arith}
-use borrow.Author.Tests.{eq-eqb, ne-eqb, ltb-true, ltb-false, leb-true, le-leb, lt-leb}
+use borrow.Author.Tests.{eq-eqb, ne-eqb, ltb-true, ltb-false, le-leb, lt-leb}
 use lib.Dec.{leb, ltb}
 use lib.ListN.{length, getD}
 use lib.Seq.{getD-take}
-use Rattle.fields.specs.Field.{Bytes}
 use Rattle.rules.specs.Words.{all}
-use Rattle.rules.specs.Bounds.{mostRecords, lastDay}
+use Rattle.rules.specs.Bounds.{mostRecords}
 use Rattle.rules.specs.Book.{dueOf, noPosition, openOf, withDay, withCharges}
-use Rattle.rules.specs.Layout.{book, bookLength, bookOf, bytesOf}
-use Rattle.rules.specs.LayoutLaws.{book-bytes, book-fits}
-use Rattle.rules.specs.Sound.{sound, recordsFit, ascends, isDue, dayFits}
+use Rattle.rules.specs.Layout.{bookOf, bytesOf}
+use Rattle.rules.specs.Sound.{sound, recordsFit, ascends, isDue}
 use Rattle.rules.specs.Roll.{uncharged, nextDay, openPlusNets}
 use Rattle.rules.specs.Calls.{roll, after}
 use Rattle.rules.specs.declared.Position.{Position}
@@ -73,10 +71,6 @@ module _ (k : Book) where
 
 -- ── the roll ──
 
-pub day-small : (k : Book) → sound k ≡ true → k .day ≤ lastDay
-unfolding dayFits
-day-small k ok = leb-true (k .day) lastDay (sound-parts k ok .day)
-
 module _ (k : Book) (ok : sound k ≡ true) (s : Shaped k) (quiet : isQuiet k ≡ true) where
   pub few : openPlusNets k ≤ mostRecords
   few = omega (arith, quiet-count k (sound-parts k ok) s quiet, records-few k (sound-parts k ok .records))
@@ -86,10 +80,8 @@ module _ (k : Book) (ok : sound k ≡ true) (s : Shaped k) (quiet : isQuiet k �
   rolled-quietly = sym (quiet-rolled k (sound-parts k ok) s quiet)
 
 -- the day stored, and then the charges set to zero
-pub written : (bs l₁ l₂ : List ℕ) (d : ℕ) → Bytes bs → length bs ≡ bookLength → d < 2 ^ 16 → d ≡ bookOf bs .day + 1
-    → l₁ ≡ bytesOf (withDay (bookOf bs) d) → l₂ ≡ bytesOf (uncharged (bookOf l₁)) → l₂ ≡ bytesOf (nextDay (uncharged (bookOf bs)))
+pub written : (bs l₁ l₂ : List ℕ) (d : ℕ) → d ≡ bookOf bs .day + 1 → bookOf l₁ ≡ withDay (bookOf bs) d → l₂ ≡ bytesOf (uncharged (bookOf l₁))
+    → l₂ ≡ bytesOf (nextDay (uncharged (bookOf bs)))
 unfolding nextDay uncharged withDay withCharges
-written bs l₁ l₂ d h l small next e f =
-    let fits : book .Ok (withDay (bookOf bs) d) = (omega arith, book-fits bs h l .1) in
-    let read : bookOf l₁ ≡ withDay (bookOf bs) d = ap bookOf e ∙ book-bytes (withDay (bookOf bs) d) fits in
-    f ∙ ap (λ (k : Book). bytesOf (uncharged k)) read ∙ ap (λ (n : ℕ). bytesOf (uncharged (withDay (bookOf bs) n))) next
+written bs l₁ l₂ d next e f =
+    f ∙ ap (λ (k : Book). bytesOf (uncharged k)) e ∙ ap (λ (n : ℕ). bytesOf (uncharged (withDay (bookOf bs) n))) next

@@ -17,6 +17,8 @@ use Rattle.laws.specs.SoundParts.{sound-parts}
 use Rattle.laws.specs.Shaped.{Shaped}
 use Rattle.laws.specs.OffsetKept.{Ready}
 use Rattle.laws.specs.Rolling.{rolling, rolling-open, rolling-ready}
+use Rattle.parts.specs.Packing.{PackAsks}
+use Rattle.offsetting.specs.Result.{rolling-asks}
 
 module _ (k : Book) where
   pub too-many : mostRecords < openPlusNets k → 10 ≡ answerSound k roll
@@ -35,9 +37,10 @@ module _ (k : Book) where
   unfolding after rolled rolling
   rolled-by = refl
 
-  -- the book before offsetting is ready for it
-  pub ready : sound k ≡ true → Shaped k → openPlusNets k ≤ mostRecords → Ready (rolling k) × (rolling k .records ≤ mostRecords)
+  -- the book before offsetting is ready for it, and nothing stands behind its records
+  few : sound k ≡ true → Shaped k → openPlusNets k ≤ mostRecords → rolling k .records ≤ mostRecords
   unfolding rolling nextDay emptied netted uncharged withDay withList withOpen withCharges openOf listOf
-  ready e s h =
-      let r = rolling-ready k (sound-parts k e) s h in
-      (r, subst (λ (ps : List Position). length ps ≤ mostRecords) (rolling-open k) (r .few))
+  few e s h = subst (λ (ps : List Position). length ps ≤ mostRecords) (rolling-open k) (rolling-ready k (sound-parts k e) s h .few)
+
+  pub ready : sound k ≡ true → Shaped k → openPlusNets k ≤ mostRecords → Ready (rolling k) × PackAsks (rolling k)
+  ready e s h = (rolling-ready k (sound-parts k e) s h, rolling-asks k (few e s h))

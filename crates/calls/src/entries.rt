@@ -1,5 +1,5 @@
-// Entry, amendment and exclusion of trades (document 01, "From trades to positions"; refusals 2 to 9). The list is read
-// and written where it stands: the book is neither loaded nor stored.
+// Entry, amendment and exclusion of trades (document 01, "From trades to positions"; refusals 2 to 9). The list alone is
+// read and written.
 use rules::Trade;
 use trading::amend_refusal;
 use trading::enter_refusal;

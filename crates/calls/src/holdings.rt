@@ -1,5 +1,5 @@
 // Deposits and withdrawals (document 01, "Refusal numbers": 2, 3, 4, and 12 or 11). The one holding that changes is
-// read and written where it stands: the book is neither loaded nor stored.
+// read and written where it stands.
 use book::codes_of;
 use book::holding_at;
 use book::put_holding;

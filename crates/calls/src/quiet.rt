@@ -1,7 +1,6 @@
 // The roll of a quiet day (document 01, "From trades to positions"; refusal 14): no trade was entered and no record
 // falls due on the next day, so that nothing is netted and nothing offset. Charges are set to zero and the day goes up
-// by one where they stand: the book is neither loaded nor stored. 10 cannot occur, for a sound book has at most 1,024
-// records.
+// by one. 10 cannot occur, for a sound book has at most 1,024 records.
 use book::clear_charges;
 use book::day_at;
 use book::entries_at;

@@ -1,8 +1,7 @@
 // The day roll (document 01, "From trades to positions"; refusals 10 and 14).
 use crate::quiet::is_quiet;
 use crate::quiet::quiet_roll;
-use book::load;
-use book::store;
+use book::day_at;
 use netting::before_offset;
 use netting::with_nets;
 use offsetting::offset_due;
@@ -11,22 +10,21 @@ ghost use mathlib.Core.Bool.{false};
 ghost use Rattle.rules.specs.Sound.{notSound};
 ghost use Rattle.rules.specs.Calls.{roll, answerBytes, afterBytes};
 
-// Every step, on the book as a value. Right for a quiet day too, but some hundred times slower.
+// Every step: nets are made in a copy of the position table, all else where it stands. Right for a quiet day too, but many
+// times slower.
 fn full_roll(book: &mut [u8]) -> u8
     requires { ⌜ notSound (now book) ≡ false ⌝ }
     ensures { λ r. ⌜ (r ≡ answerBytes (now (book .entry)) roll) × (now (book .exit) ≡ afterBytes (now (book .entry)) roll) ⌝ }
 {
-    let k = load(book);
-    let netted = with_nets(k);
+    let netted = with_nets(book);
     if netted.count > 1024 {
         return 10;
     }
-    if k.day == 60_000 {
+    if day_at(book) == 60_000 {
         return 14;
     }
-    let ready = before_offset(k, netted);
-    let rolled = offset_due(ready);
-    store(rolled, book);
+    before_offset(book, netted);
+    offset_due(book);
     0
 }
 

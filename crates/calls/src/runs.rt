@@ -1,10 +1,7 @@
-// The settlement run (document 01, "Settlement run"; refusals 3 and 13). The answer is the shares moved, 0 included: where
-// nothing can be given the book is neither loaded nor stored.
+// The settlement run (document 01, "Settlement run"; refusals 3 and 13), where the bytes stand. The answer is the shares
+// moved, 0 included: where nothing can be given, no byte is written.
 use book::codes_of;
-use book::load;
-use book::store;
 use rules::RunAnswer;
-use settling::can_give;
 use settling::deliverable_of;
 use settling::run_refusal;
 use settling::with_run;
@@ -23,18 +20,13 @@ pub fn run(book: &mut [u8], security: u8) -> RunAnswer
     if bad_security(codes, security) {
         return RunAnswer::RunRefused(3);
     }
-    if !can_give(book, security) {
+    let gives = deliverable_of(book, security);
+    if gives == 0 {
         return RunAnswer::Moved(Shares::of(false, 0));
     }
-    let k = load(book);
-    let gives = deliverable_of(k, security);
-    let refusal = run_refusal(k, security, gives);
+    let refusal = run_refusal(book, security, gives);
     if refusal != 0 {
         return RunAnswer::RunRefused(refusal);
     }
-    let settled = with_run(k, security, gives);
-    let next = settled.book;
-    let moved = settled.shares;
-    store(next, book);
-    RunAnswer::Moved(moved)
+    RunAnswer::Moved(with_run(book, security, gives))
 }

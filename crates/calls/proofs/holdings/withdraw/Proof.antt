@@ -68,7 +68,7 @@ returns-2 c =
     let e = h .before .before in
     let a = start e .args in
     accepted (a .book .now) (start e .pre) _ _ (sym (answered e))
-    (c .before .before .put-holding .ensures
+    (c .before .before .put-holding .ensures .0
     ∙ ap bytesOf (withdrawn (bookOf (a .book .now)) (a .account) (a .security) (a .quantity) (h .holding-at .result) (h .holding-at .ensures)))
 
 pub withdraw-spec : {M : Type 1} → statement M

@@ -3,21 +3,18 @@ use borrow.Author.Needs.{needs}
 use mathlib.Core.Path.{ap, sym, _∙_}
 use native.Mathlib.Omega.{arith}
 use Prim.Native.Nat.{ℕ, _+_, _≤_}
-use Rattle.fields.specs.Field.{Bytes}
 use Rattle.rules.specs.Bounds.{mostRecords, lastDay}
 use Rattle.rules.specs.Layout.{bookOf, bytesOf}
 use Rattle.rules.specs.Roll.{openPlusNets}
 use Rattle.rules.specs.Calls.{roll}
+use Rattle.laws.specs.SoundParts.{day-small}
 use Rattle.calls.specs.Lent.{shaped, long, is-sound, refused, accepted}
 use Rattle.calls.specs.Rolls.{last-day, may}
-use Rattle.calls.specs.Quiet.{day-small, few, rolled-quietly, written}
+use Rattle.calls.specs.Quiet.{few, rolled-quietly, written}
 use Rattle.calls.proofs.quiet.quiet_roll.Statement.{statement}
 use Rattle.calls.proofs.quiet.quiet_roll.Tie as tie
 
 -- ── the book that was lent ──
-
-bytes : (c : tie.After-slice-known) → Bytes (c .before .args .b .now)
-bytes c = record { byte = λ i. omega (arith, c .slice-known .given i) }
 
 in-table : (s : tie.Start) → openPlusNets (bookOf (s .args .b .now)) ≤ mostRecords
 in-table s = few _ (is-sound _ (s .pre .0)) (shaped _) (s .pre .1)
@@ -58,10 +55,8 @@ returns-2 c =
     let d = e .before in
     let s = d .before .before .before in
     let bs = s .args .b .now in
-    let m = in-days d in
     accepted bs (s .pre .0) roll _ (may _ (in-table s) (λ z. e .if1 .left (d .day-at .ensures ∙ z)))
-    (written bs _ _ _ (bytes (d .before .before)) (long bs (s .pre .0)) (omega arith) (ap (λ (n : ℕ). n + 1) (d .day-at .ensures)) (put .put-day .ensures)
-    (cleared .clear-charges .ensures)
+    (written bs _ _ _ (ap (λ (n : ℕ). n + 1) (d .day-at .ensures)) (put .put-day .ensures .1) (cleared .clear-charges .ensures .0)
     ∙ ap bytesOf (rolled-quietly (bookOf bs) (is-sound bs (s .pre .0)) (shaped bs) (s .pre .1)))
 
 pub quiet-roll-spec : {M : Type 1} → statement M

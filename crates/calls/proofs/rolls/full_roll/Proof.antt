@@ -1,112 +1,112 @@
 -- `calls::rolls::full_roll` meets its contract: refusal 10, refusal 14, acceptance. Assumes nothing.
 use borrow.Author.Needs.{needs}
 use native.Mathlib.Omega.{arith}
-use mathlib.Core.Path.{_≡_, ap, _∙_}
-use mathlib.Core.Bool.{true}
+use mathlib.Core.Path.{_≡_, sym, ap, _∙_}
 use mathlib.Core.List.{List}
 use Prim.Native.Nat.{ℕ, _≤_}
+use lib.ListN.{length}
+use Rattle.fields.specs.Field.{Bytes}
 use Rattle.rules.specs.Bounds.{mostRecords}
-use Rattle.rules.specs.Layout.{bookOf, bytesOf}
-use Rattle.rules.specs.Sound.{sound}
+use Rattle.rules.specs.Layout.{bookLength, bookOf, bytesOf}
+use Rattle.rules.specs.LayoutLaws.{bytes-book}
 use Rattle.rules.specs.Roll.{openPlusNets, offset}
-use Rattle.rules.specs.Calls.{roll, answerSound, after}
-use Rattle.rules.specs.declared.Book.{Book}
-use Rattle.laws.specs.Shaped.{Shaped}
+use Rattle.rules.specs.Calls.{roll}
 use Rattle.calls.specs.Lent.{shaped, long, is-sound, refused, accepted}
 use Rattle.calls.specs.Rolls.{too-many, last-day, may, rolled-by, ready}
 use Rattle.calls.proofs.rolls.full_roll.Statement.{statement}
 use Rattle.calls.proofs.rolls.full_roll.Tie as tie
 
--- ── the book that was read ──
+-- ── the book, before a byte is written ──
 
-bytes : (c : tie.After-load) → List ℕ
-bytes c = c .before .before .before .args .book .now
+abbrev start : tie.After-with-nets → tie.Start
+start c = c .before .before .before
 
-read : (c : tie.After-load) → c .load .result ≡ bookOf (bytes c)
-unfolding bytes
-read c = c .load .ensures
+abbrev bytes : tie.After-with-nets → List ℕ
+bytes c = start c .args .book .now
 
-sound-read : (c : tie.After-load) → sound (c .load .result) ≡ true
-unfolding bytes
-sound-read c = ap sound (read c) ∙ is-sound (bytes c) (c .before .before .before .pre)
+-- its nets have room
+few : (c : tie.Else1) → openPlusNets (bookOf (bytes (c .before .before))) ≤ mostRecords
+few c = omega (arith, c .before .before .with-nets .ensures .0, c .if1 .left)
 
-shaped-read : (c : tie.After-load) → Shaped (c .load .result)
-shaped-read c = rw (read c) (shaped (bytes c))
+-- ── before offsetting ──
 
--- the answer on the book is that on its bytes
-answer-read : (c : tie.After-load) (n : ℕ) → n ≡ answerSound (c .load .result) roll → n ≡ answerSound (bookOf (bytes c)) roll
-answer-read c n e = e ∙ ap (λ (k : Book). answerSound k roll) (read c)
+abbrev room : tie.After-before-offset → tie.Else1
+room c = c .before .before .before .before .before
+
+long₁ : (c : tie.After-before-offset) → length (c .before-offset .last .0) ≡ bookLength
+long₁ c = let w = room c .before .before in c .before-offset .kept .0 ∙ long _ (start w .pre)
 
 -- ── the needs ──
 
-load-requires : tie.Need-load-requires
-load-requires c κs = long _ (c .before .before .pre)
-
 with-nets-requires : tie.Need-with-nets-requires
-with-nets-requires c κs = sound-read c
+with-nets-requires c κs = let s = c .before .before in (long _ (s .pre), is-sound _ (s .pre))
 
 same-length : tie.Need-same-length
 same-length c = search needs
 
 returns : tie.Need-returns
-unfolding bytes
 returns c =
-    let l = c .before .before .before in
-    refused (bytes l) (l .before .before .before .pre) roll 10 (answer-read l 10 (too-many _ (omega (arith, c .before .before .with-nets .ensures .0, c .if1 .taken)))) (λ z. omega arith)
+    let w = c .before .before in
+    refused (bytes w) (start w .pre) roll 10 (too-many _ (omega (arith, w .with-nets .ensures .0, c .if1 .taken))) (λ z. omega arith)
+
+day-at-requires : tie.Need-day-at-requires
+day-at-requires c κs = long _ (start (c .before .before .before) .pre)
 
 same-length-2 : tie.Need-same-length-2
 same-length-2 c = search needs
 
 returns-2 : tie.Need-returns-2
-unfolding bytes
 returns-2 c =
-    let l = c .before .before .before .before .before in
-    let few : openPlusNets (l .load .result) ≤ mostRecords = omega (arith, c .before .before .before .before .with-nets .ensures .0, c .before .before .if1 .left) in
-    refused (bytes l) (l .before .before .before .pre) roll 14 (answer-read l 14 (last-day _ few (c .if2 .taken))) (λ z. omega arith)
+    let d = c .before in
+    let e = d .before .before in
+    let w = e .before .before in
+    refused (bytes w) (start w .pre) roll 14 (last-day _ (few e) (omega (arith, d .day-at .ensures, c .if2 .taken))) (λ z. omega arith)
 
 before-offset-requires : tie.Need-before-offset-requires
 before-offset-requires c κs =
-    let n = c .before .before .before .before .with-nets .ensures in
-    let l = c .before .before .before .before .before in
-    let few : openPlusNets (l .load .result) ≤ mostRecords = omega (arith, n .0, c .before .before .if1 .left) in
-    (sound-read l, (n .0, n .1 few))
+    let e = c .before .before .before .before in
+    let w = e .before .before in
+    let n = w .with-nets .ensures in
+    (long _ (start w .pre), is-sound _ (start w .pre), few e, omega (arith, n .0, few e), n .1 (few e))
 
 offset-due-requires : tie.Need-offset-due-requires
 offset-due-requires c κs =
-    let n = c .before .before .before .before .before .with-nets .ensures in
-    let l = c .before .before .before .before .before .before in
-    let few : openPlusNets (l .load .result) ≤ mostRecords = omega (arith, n .0, c .before .before .before .if1 .left) in
-    rw (c .before-offset .ensures) (ready (l .load .result) (sound-read l) (shaped-read l) few)
-
-store-requires : tie.Need-store-requires
-store-requires c κs = search (needs, long)
+    let o = c .before .before .before in
+    let e = room o in
+    let w = e .before .before in
+    let r = ready (bookOf (bytes w)) (is-sound _ (start w .pre)) (shaped (bytes w)) (few e) in
+    (long₁ o, rw (o .before-offset .ensures) (r .0), rw (o .before-offset .ensures) (r .1))
 
 same-length-3 : tie.Need-same-length-3
-same-length-3 c = search needs
+same-length-3 c =
+    let d = c .before .before in
+    let o = d .before .before .before .before in
+    omega (arith, d .offset-due .kept .0, long₁ o, long _ (start (room o .before .before) .pre))
 
 returns-3 : tie.Need-returns-3
-unfolding bytes
 returns-3 c =
-    let o = c .before .before .before .before in
-    let l = o .before .before .before .before .before .before .before in
-    let n = o .before .before .before .before .before .before .with-nets .ensures in
-    let few : openPlusNets (l .load .result) ≤ mostRecords = omega (arith, n .0, o .before .before .before .before .if1 .left) in
-    accepted (bytes l) (l .before .before .before .pre) roll _ (answer-read l 0 (may _ few (o .before .before .if2 .left)))
-    (c .before .before .store .ensures
-    ∙ ap bytesOf (o .offset-due .ensures ∙ ap offset (o .before .before-offset .ensures) ∙ rolled-by (l .load .result) ∙ ap (λ (k : Book). after k roll) (read l)))
+    let d = c .before .before in
+    let o = d .before .before .before .before in
+    let e = room o in
+    let w = e .before .before in
+    let new = d .offset-due .last .0 in
+    let whole : Bytes new = record { byte = λ i. omega (arith, c .slice-known3 .given i) } in
+    let size : length new ≡ bookLength = d .offset-due .kept .0 ∙ long₁ o in
+    let day = c .before .before .before .before .before .before .before .before in
+    accepted (bytes w) (start w .pre) roll _ (may _ (few e) (λ z. day .if2 .left (day .before .day-at .ensures ∙ z)))
+    (sym (bytes-book new whole size) ∙ ap bytesOf (d .offset-due .ensures ∙ ap offset (o .before-offset .ensures) ∙ rolled-by (bookOf (bytes w))))
 
 pub full-roll-spec : {M : Type 1} → statement M
 full-roll-spec =
     tie.close
     (tie.spec
-    load-requires
     with-nets-requires
     same-length
     returns
+    day-at-requires
     same-length-2
     returns-2
     before-offset-requires
     offset-due-requires
-    store-requires
     same-length-3
     returns-3)

@@ -1,18 +1,12 @@
 -- `calls::runs::run` meets its contract: an unlisted security, nothing to give, a refusal, acceptance. Assumes nothing.
 use borrow.Author.Needs.{needs}
-use borrow.Author.Tests.{not-true, ltb-false}
 use native.Mathlib.Omega.{arith}
-use mathlib.Core.Path.{_≡_, sym, ap, _∙_}
-use mathlib.Core.Bool.{true, false}
-use mathlib.Core.List.{List}
-use Prim.Native.Nat.{ℕ, _<_}
-use lib.IntN.{pos}
+use mathlib.Core.Path.{_≡_, sym, _∙_}
+use mathlib.Core.Bool.{false}
+use Prim.Native.Nat.{_<_}
 use Rattle.fields.specs.Field.{Bytes}
-use Rattle.rules.specs.Layout.{bookOf, bytesOf}
-use Rattle.rules.specs.Sound.{sound}
+use Rattle.rules.specs.Layout.{bookOf}
 use Rattle.rules.specs.Trades.{badSecurity}
-use Rattle.rules.specs.Run.{deliverable}
-use Rattle.rules.specs.Calls.{run, answerSound, after, figure}
 use Rattle.rules.specs.declared.Book.{Book}
 use Rattle.settling.specs.Ends.{security-below}
 use Rattle.calls.specs.Lent.{long, is-sound}
@@ -25,31 +19,22 @@ use Rattle.calls.proofs.runs.run.Tie as tie
 abbrev start : tie.Else1 → tie.Start
 start c = c .before .before .before .before .before
 
-listed : (c : tie.Else1) → badSecurity (bookOf (start c .args .book .now)) (start c .args .security) ≡ false
-listed c = sym (c .before .bad-security .ensures (bookOf (start c .args .book .now)) (sym (c .before .before .codes-of .ensures))) ∙ c .if1 .left
+abbrev book : tie.Else1 → Book
+book c = bookOf (start c .args .book .now)
+
+listed : (c : tie.Else1) → badSecurity (book c) (start c .args .security) ≡ false
+listed c = sym (c .before .bad-security .ensures (book c) (sym (c .before .before .codes-of .ensures))) ∙ c .if1 .left
 
 below : (c : tie.Else1) → start c .args .security < 32
-below c = security-below (bookOf (start c .args .book .now)) (start c .args .security) (listed c)
+below c = security-below (book c) (start c .args .security) (listed c)
 
--- ── the book that was read ──
+-- ── places: it is known what can be given; what is answered ──
 
-abbrev known : tie.After-load → tie.Else1
-known c = c .before .before .before .before .before
+abbrev counted : tie.After-deliverable-of → tie.Else1
+counted c = c .before .before
 
-bytes : (c : tie.After-load) → List ℕ
-bytes c = start (known c) .args .book .now
-
-read : (c : tie.After-load) → c .load .result ≡ bookOf (bytes c)
-unfolding bytes
-read c = c .load .ensures
-
-sound-read : (c : tie.After-load) → sound (c .load .result) ≡ true
-unfolding bytes
-sound-read c = ap sound (read c) ∙ is-sound (bytes c) (start (known c) .pre)
-
-listed-read : (c : tie.After-load) → badSecurity (c .load .result) (start (known c) .args .security) ≡ false
-unfolding bytes
-listed-read c = ap (λ (k : Book). badSecurity k (start (known c) .args .security)) (read c) ∙ listed (known c)
+abbrev answered : tie.After-run-refusal → tie.After-deliverable-of
+answered c = c .before .before .before
 
 -- ── the needs ──
 
@@ -67,8 +52,8 @@ returns c =
     let s = c .before .before .before .before .before in
     run-unlisted (s .args .book .now) (s .pre) (s .args .security) (sym (c .before .bad-security .ensures (bookOf (s .args .book .now)) (sym (c .before .before .codes-of .ensures))) ∙ c .if1 .taken)
 
-can-give-requires : tie.Need-can-give-requires
-can-give-requires c κs = let s = start (c .before) in (long _ (s .pre), is-sound _ (s .pre), below (c .before))
+deliverable-of-requires : tie.Need-deliverable-of-requires
+deliverable-of-requires c κs = let s = start (c .before) in (long _ (s .pre), is-sound _ (s .pre), below (c .before))
 
 -- nothing can be given
 
@@ -78,60 +63,48 @@ of-requires c κs = search needs
 same-length-2 : tie.Need-same-length-2
 same-length-2 c = search needs
 
-held : (c : tie.After-of) → Bytes (start (c .before .before .before .before) .args .book .now)
-held c = record { byte = λ i. omega (arith, c .before .before .before .before .before .before .before .before .slice-known .given i) }
-
-none : (c : tie.After-of) → deliverable (bookOf (start (c .before .before .before .before) .args .book .now)) (start (c .before .before .before .before) .args .security) ≡ 0
-none c =
-    let l = ltb-false 0 (deliverable (bookOf (start (c .before .before .before .before) .args .book .now)) (start (c .before .before .before .before) .args .security)) (sym (c .before .before .can-give .ensures) ∙ not-true _ (c .before .if2 .taken)) in
-    omega arith
+held : (c : tie.Else1) → Bytes (start c .args .book .now)
+held c = record { byte = λ i. omega (arith, c .before .before .before .before .slice-known .given i) }
 
 returns-2 : tie.Need-returns-2
 returns-2 c =
-    let s = start (c .before .before .before .before) in
-    run-idle (s .args .book .now) (s .pre) (s .args .security) (c .of .result) (held c) (listed (c .before .before .before .before)) (none c) (c .of .ensures .0)
+    let d = c .before .before in
+    let e = counted d in
+    let s = start e in
+    run-idle (s .args .book .now) (s .pre) (s .args .security) (c .of .result) (held e) (listed e) (sym (d .deliverable-of .ensures .0) ∙ c .before .if2 .taken) (c .of .ensures .0)
 
 -- something can
 
-load-requires : tie.Need-load-requires
-load-requires c κs = long _ (start (c .before .before .before .before) .pre)
-
-deliverable-of-requires : tie.Need-deliverable-of-requires
-deliverable-of-requires c κs = (sound-read c, below (known c))
-
 run-refusal-requires : tie.Need-run-refusal-requires
-run-refusal-requires c κs = (sound-read (c .before), listed-read (c .before), c .deliverable-of .ensures .0)
+run-refusal-requires c κs =
+    let d = c .before .before in
+    let s = start (counted d) in
+    (long _ (s .pre), is-sound _ (s .pre), listed (counted d), d .deliverable-of .ensures .0)
 
 same-length-3 : tie.Need-same-length-3
 same-length-3 c = search needs
 
 returns-3 : tie.Need-returns-3
-unfolding bytes
 returns-3 c =
-    let l = c .before .before .before in
-    let s = start (known l) .args .security in
-    run-refused (bytes l) (start (known l) .pre) s _ (c .before .run-refusal .ensures ∙ ap (λ (k : Book). answerSound k (run s)) (read l)) (c .if3 .taken)
+    let s = start (counted (answered (c .before))) in
+    run-refused (s .args .book .now) (s .pre) (s .args .security) _ (c .before .run-refusal .ensures) (c .if3 .taken)
 
 with-run-requires : tie.Need-with-run-requires
-with-run-requires c κs = (sound-read (c .before .before .before), sym (c .before .run-refusal .ensures) ∙ c .if3 .left, c .before .before .deliverable-of .ensures .0, c .before .before .deliverable-of .ensures .1)
-
-store-requires : tie.Need-store-requires
-store-requires c κs = long _ (start (known (c .before .before .before .before .before .before .before)) .pre)
+with-run-requires c κs =
+    let a = c .before .before in
+    let d = answered a in
+    let s = start (counted d) in
+    (long _ (s .pre), is-sound _ (s .pre), sym (a .run-refusal .ensures) ∙ c .before .if3 .left, d .deliverable-of .ensures .0, d .deliverable-of .ensures .1)
 
 same-length-4 : tie.Need-same-length-4
 same-length-4 c = search needs
 
 returns-4 : tie.Need-returns-4
-unfolding bytes
 returns-4 c =
-    let w = c .before .before .before .before .before .before in
-    let l = w .before .before .before .before in
-    let s = start (known l) .args .security in
-    let e = read l in
-    run-accepted (bytes l) (start (known l) .pre) s _ _
-    (sym (w .before .if3 .left) ∙ w .before .before .run-refusal .ensures ∙ ap (λ (k : Book). answerSound k (run s)) e)
-    (w .with-run .ensures .1 ∙ ap (λ (k : Book). pos (figure k (run s))) e)
-    (c .before .before .store .ensures ∙ ap bytesOf (w .with-run .ensures .0 ∙ ap (λ (k : Book). after k (run s)) e))
+    let w = c .before .before in
+    let e = w .before .before in
+    let s = start (counted (answered (e .before))) in
+    run-accepted (s .args .book .now) (s .pre) (s .args .security) _ _ (sym (e .if3 .left) ∙ e .before .run-refusal .ensures) (w .with-run .ensures .1) (w .with-run .ensures .0)
 
 pub run-spec : {M : Type 1} → statement M
 run-spec =
@@ -141,16 +114,13 @@ run-spec =
     bad-security-requires
     same-length
     returns
-    can-give-requires
+    deliverable-of-requires
     of-requires
     same-length-2
     returns-2
-    load-requires
-    deliverable-of-requires
     run-refusal-requires
     same-length-3
     returns-3
     with-run-requires
-    store-requires
     same-length-4
     returns-4)
