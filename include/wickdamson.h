@@ -20,8 +20,8 @@
  *   - What one call is lent must not overlap, except buffers that are both `const`. During the call nobody may write what is
  *     lent as `const`, nor read or write the rest. A call keeps nothing: no memory is allocated, no file opened, no state is
  *     held between calls, and different threads can work on different books at the same time.
- *   - The caller's stack needs room: 1 MiB is enough for every call (wick_sheet takes some 730,000 bytes, the others less than
- *     450,000).
+ *   - The caller's stack needs room: 1 MiB is enough for every call (wick_sheet takes some 530,000 bytes, the others no
+ *     more than 200,000).
  *   - A book is WICK_BOOK_BYTES bytes, which the caller keeps where it likes: in memory, in a file (docs/BOOK.md says
  *     what stands in it). Bytes of any origin may be lent: every call on a book but wick_create, wick_play and wick_sheet,
  *     which begin a new history, tests before anything else whether they are a sound book, and refuses by WICK_NOT_SOUND
