@@ -1,14 +1,15 @@
--- What no printed line of the other examples shows: charges set to zero, another currency, what the receiver holds, a full list.
+-- What no printed line of the other examples shows: charges set to zero, another currency, what the receiver holds, the order of the list, a full list.
 use mathlib.Core.Path.{_≡_, refl}
 use mathlib.Core.List.{List, [], _∷_, _++_, map}
 use Prim.Native.Nat.{ℕ}
-use Rattle.rules.specs.Words.{from, text}
-use Rattle.rules.specs.Book.{withList}
-use Rattle.rules.specs.Calls.{enter, answer}
+use Rattle.rules.specs.Words.{each, from, text}
+use Rattle.rules.specs.Book.{withList, listOf}
+use Rattle.rules.specs.Calls.{Call, enter, amend, exclude, answer}
 use Rattle.rules.specs.Sheet.{sheetOf}
 use Rattle.rules.specs.Example.{example}
 use Rattle.rules.specs.Opened.{everything}
-use Rattle.rules.specs.Written.{hex, created, deal, bookWith}
+use Rattle.rules.specs.Written.{hex, created, deal, bookWith, through}
+use Rattle.rules.specs.declared.Trade.{Trade}
 use Rattle.rules.specs.declared.Book.{Book}
 
 -- ── a charge is in the currency of its security, and is set to zero by the next roll ──
@@ -48,6 +49,30 @@ received : sheetOf (example ++ withdrawals)
     ++ text "C 1 0 6825000\nC 2 0 -2608333\nC 3 0 -4240000\nE 9\n"
 unfolding everything
 received = refl
+
+-- ── an entry stands last in the list; a trade that is amended or excluded keeps its place ──
+
+-- a trade's number, buyer, seller, security, shares and price
+abbrev row : Trade → List ℕ
+row t = t .number ∷ t .buyer ∷ t .seller ∷ t .security ∷ t .quantity ∷ t .price .0 ∷ []
+
+abbrev listed : List Call → List ℕ
+listed calls = each row (listOf (through (bookWith (0 ∷ 0 ∷ [])) calls))
+
+abbrev three : List Call → List Call
+three calls = enter (deal 7 1 2 0 5 10) ∷ enter (deal 3 2 1 0 6 11) ∷ enter (deal 9 3 1 1 7 12) ∷ calls
+
+entered-last : listed (three []) ≡ 7 ∷ 1 ∷ 2 ∷ 0 ∷ 5 ∷ 10 ∷ 3 ∷ 2 ∷ 1 ∷ 0 ∷ 6 ∷ 11 ∷ 9 ∷ 3 ∷ 1 ∷ 1 ∷ 7 ∷ 12 ∷ []
+unfolding everything
+entered-last = refl
+
+amended-in-place : listed (three (amend (deal 3 4 5 1 8 13) ∷ [])) ≡ 7 ∷ 1 ∷ 2 ∷ 0 ∷ 5 ∷ 10 ∷ 3 ∷ 4 ∷ 5 ∷ 1 ∷ 8 ∷ 13 ∷ 9 ∷ 3 ∷ 1 ∷ 1 ∷ 7 ∷ 12 ∷ []
+unfolding everything
+amended-in-place = refl
+
+excluded-in-place : listed (three (exclude 7 ∷ [])) ≡ 7 ∷ 0 ∷ 0 ∷ 0 ∷ 0 ∷ 0 ∷ 3 ∷ 2 ∷ 1 ∷ 0 ∷ 6 ∷ 11 ∷ 9 ∷ 3 ∷ 1 ∷ 1 ∷ 7 ∷ 12 ∷ []
+unfolding everything
+excluded-in-place = refl
 
 -- ── 9: the list has 256 numbers, excluded ones counted; a used number is 7 ──
 

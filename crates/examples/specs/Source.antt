@@ -246,7 +246,7 @@ many : sheetOf many-file ≡ text "DAY 3\n"
 unfolding everything
 many = refl
 
--- A run leaves records that are not due, those of 0 shares too.
+-- A run leaves records of 0 shares that are not due.
 abbrev not-due-file : List ℕ
 not-due-file =
     created (0 ∷ [])

@@ -1,18 +1,19 @@
 -- Marks: source documents 000 and 001, 10.10.8B and 10.10A.4. The sources mark overdue and pending positions apart and waive some; the house gives one joint amount
 -- over all records (docs/DECISIONS.md, A2).
 use mathlib.Core.Path.{_≡_, refl}
-use mathlib.Core.List.{List, [], _∷_, _++_}
+use mathlib.Core.Bool.{true}
+use mathlib.Core.List.{List, [], _∷_}
 use Prim.Native.Nat.{ℕ}
 use lib.ListN.{replicate}
 use lib.IntN.{pos, negℤ}
 use Rattle.rules.specs.Book.{withOpen}
-use Rattle.rules.specs.Layout.{bytesOf}
-use Rattle.rules.specs.Marks.{Terms, marks, dueAndSums}
-use Rattle.rules.specs.Opened.{everything}
-use Rattle.rules.specs.Written.{hex, at, bookWith}
+use Rattle.rules.specs.Sound.{sound}
+use Rattle.rules.specs.Marks.{Terms, terms, marksTests, marksNumber, marks, dueAndSums}
+use Rattle.rules.specs.Opened.{everything, values}
+use Rattle.rules.specs.Written.{at, bookWith}
+use Rattle.rules.specs.MarkReadings.{answered, due, none, rates, haircuts}
 use Rattle.rules.specs.declared.Position.{Position}
 use Rattle.rules.specs.declared.Book.{Book}
-use Rattle.marks_examples.specs.Asked.{none, rates, haircuts, asked, due}
 
 -- ── 10.10.8B: three open records, at 1,100, 1,200 and 1,300 ──
 
@@ -27,12 +28,16 @@ three =
     at 1 2 2 (negℤ (pos 300)) (negℤ (pos 350_000)) ∷
     [])
 
-unfoldable three-prices : List ℕ
-three-prices = hex "0000044c 000004b0 00000514" ++ replicate 116 0
+abbrev three-prices : List ℕ
+three-prices = 0 ∷ 0 ∷ 4 ∷ 76 ∷ 0 ∷ 0 ∷ 4 ∷ 176 ∷ 0 ∷ 0 ∷ 5 ∷ 20 ∷ replicate 116 0
 
-v14 : marks (bytesOf three) 1 (asked none three-prices rates haircuts) ≡ due 30_000 (negℤ (pos 30_000)) (pos 0)
-unfolding everything three three-prices
-v14 = refl
+v14 : answered three 1 (terms none three-prices rates haircuts) (due 30_000 (negℤ (pos 30_000)) (pos 0) (pos 0))
+unfolding values three
+v14 bs h b = rw (marks, marksNumber, marksTests, b, h)
+
+three-sound : sound three ≡ true
+unfolding everything three
+three-sound = refl
 
 -- ── 10.10A.4: securities A to E in the base, F and G in currency 1 at 7.8 with a haircut of 0.5 % ──
 -- (Over a list of records: in a sound book the roll would have offset those of opposite signs that are due.)
@@ -58,11 +63,12 @@ margined =
     []
 
 -- 210,000, 22,000, 21,000, 20,000, 3,000, 2,800, 19,000
-unfoldable margin-terms : Terms
+abbrev margin-terms : Terms
 margin-terms =
-    asked none (hex "00033450 000055f0 00005208 00004e20 00000bb8 00000af0 00004a38" ++ replicate 100 0)
+    terms none
+    (0 ∷ 3 ∷ 52 ∷ 80 ∷ 0 ∷ 0 ∷ 85 ∷ 240 ∷ 0 ∷ 0 ∷ 82 ∷ 8 ∷ 0 ∷ 0 ∷ 78 ∷ 32 ∷ 0 ∷ 0 ∷ 11 ∷ 184 ∷ 0 ∷ 0 ∷ 10 ∷ 240 ∷ 0 ∷ 0 ∷ 74 ∷ 56 ∷ replicate 100 0)
     (1_000_000 ∷ 7_800_000 ∷ 1_000_000 ∷ 1_000_000 ∷ []) (0 ∷ 50 ∷ 0 ∷ 0 ∷ [])
 
-v15 : dueAndSums (bookWith (0 ∷ 0 ∷ 0 ∷ 0 ∷ 0 ∷ 1 ∷ 1 ∷ [])) margin-terms margined ≡ due 6_827_700_000 (pos 19_432_950_000) (negℤ (pos 3_350_000_000))
-unfolding everything margined margin-terms
+v15 : dueAndSums (bookWith (0 ∷ 0 ∷ 0 ∷ 0 ∷ 0 ∷ 1 ∷ 1 ∷ [])) margin-terms margined ≡ due 6_827_700_000 (pos 19_432_950_000) (negℤ (pos 3_350_000_000)) (pos 0)
+unfolding everything margined
 v15 = refl

@@ -1,5 +1,4 @@
 -- Theorems by computation about marks: worked examples of the source documents, the order of refusals, the limit.
-pub mod Asked
 pub mod MarkOrders
 pub mod Marked
 pub mod Joint

@@ -1,4 +1,4 @@
--- Marks: source document 001, 10.10.4 and 10.10.6, and the limit of refusal 16 at and past it.
+-- Marks: source document 001, 10.10.4 and 10.10.6, and the limit of refusal 16 at and past it, on any bytes that are a sound book, and that book.
 use mathlib.Core.Path.{_≡_, refl}
 use mathlib.Core.Bool.{true}
 use mathlib.Core.List.{List, [], _∷_, _++_, map}
@@ -9,12 +9,12 @@ use Rattle.rules.specs.Words.{each, from}
 use Rattle.rules.specs.Book.{withOpen, withDay}
 use Rattle.rules.specs.Layout.{bytesOf}
 use Rattle.rules.specs.Sound.{sound}
-use Rattle.rules.specs.Marks.{Terms, marks}
-use Rattle.rules.specs.Opened.{everything}
-use Rattle.rules.specs.Written.{hex, at, bookWith}
+use Rattle.rules.specs.Marks.{Terms, terms, marksTests, marksNumber, marks}
+use Rattle.rules.specs.Opened.{everything, values}
+use Rattle.rules.specs.Written.{at, bookWith}
+use Rattle.rules.specs.MarkReadings.{answered, due, none, rates, haircuts, delivery, owing, crowded}
 use Rattle.rules.specs.declared.Book.{Book}
 use Rattle.rules.specs.declared.MarksAnswer.the-variants.{MarksRefused}
-use Rattle.marks_examples.specs.Asked.{none, rates, haircuts, asked, due}
 
 -- ── 10.10.4: securities 0 and 1 in the base, 2 and 3 in currency 1 at 7.8 with a haircut of 0.5 % ──
 
@@ -32,13 +32,20 @@ two-currencies =
     [])
 
 -- 1,100, 1,200, 1,200, 1,100
-unfoldable prices : List ℕ
-prices = hex "0000044c 000004b0 000004b0 0000044c" ++ replicate 112 0
+abbrev prices : List ℕ
+prices = 0 ∷ 0 ∷ 4 ∷ 76 ∷ 0 ∷ 0 ∷ 4 ∷ 176 ∷ 0 ∷ 0 ∷ 4 ∷ 176 ∷ 0 ∷ 0 ∷ 4 ∷ 76 ∷ replicate 112 0
 
-v12 : marks (bytesOf two-currencies) 1 (asked none prices (1_000_000 ∷ 7_800_000 ∷ 1_000_000 ∷ 1_000_000 ∷ []) (0 ∷ 50 ∷ 0 ∷ 0 ∷ []))
-    ≡ due 225_170 (pos 10_000) (negℤ (pos 30_000))
-unfolding everything two-currencies prices
-v12 = refl
+abbrev v12-terms : Terms
+v12-terms = terms none prices (1_000_000 ∷ 7_800_000 ∷ 1_000_000 ∷ 1_000_000 ∷ []) (0 ∷ 50 ∷ 0 ∷ 0 ∷ [])
+
+v12 : answered two-currencies 1 v12-terms (due 225_170 (pos 10_000) (negℤ (pos 30_000)) (pos 0))
+unfolding values two-currencies
+v12 bs h b = rw (marks, marksNumber, marksTests, b, h)
+
+-- the same over its bytes
+v12-bytes : marks (bytesOf two-currencies) 1 v12-terms ≡ due 225_170 (pos 10_000) (negℤ (pos 30_000)) (pos 0)
+unfolding everything two-currencies
+v12-bytes = refl
 
 -- ── 10.10.6: overdue positions; one account's loss is the other's gain, and the gain covers nothing ──
 
@@ -53,29 +60,30 @@ overdue =
     []))
     2
 
-v13-first : marks (bytesOf overdue) 1 (asked none prices rates haircuts) ≡ due 0 (pos 10_000) (pos 0)
-unfolding everything overdue prices
-v13-first = refl
+v13-first : answered overdue 1 (terms none prices rates haircuts) (due 0 (pos 10_000) (pos 0) (pos 0))
+unfolding values overdue
+v13-first bs h b = rw (marks, marksNumber, marksTests, b, h)
 
-v13-second : marks (bytesOf overdue) 2 (asked none prices rates haircuts) ≡ due 10_000 (negℤ (pos 10_000)) (pos 0)
-unfolding everything overdue prices
-v13-second = refl
+v13-second : answered overdue 2 (terms none prices rates haircuts) (due 10_000 (negℤ (pos 10_000)) (pos 0) (pos 0))
+unfolding values overdue
+v13-second bs h b = rw (marks, marksNumber, marksTests, b, h)
 
 -- ── refusal 16: 18 records of 0 shares with 2.5 * 10^15 to pay, at the highest rate with the whole haircut ──
 
 unfoldable heavy : ℤ → Book
 heavy m = withOpen (bookWith (replicate 18 1)) (at 1 1 0 (pos 0) m ∷ map (λ s. at 1 1 s (pos 0) (pos 2_500_000_000_000_000)) (from 1 17))
 
-unfoldable highest : ℕ → List ℕ → Terms
-highest haircut closing = asked none closing (1_000_000 ∷ 100_000_000 ∷ 1_000_000 ∷ 1_000_000 ∷ []) (0 ∷ haircut ∷ 0 ∷ 0 ∷ [])
+abbrev highest : ℕ → List ℕ → Terms
+highest haircut closing = terms none closing (1_000_000 ∷ 100_000_000 ∷ 1_000_000 ∷ 1_000_000 ∷ []) (0 ∷ haircut ∷ 0 ∷ 0 ∷ [])
 
-at-the-limit : marks (bytesOf (heavy (pos 2_500_000_000_000_000))) 1 (highest 10_000 none) ≡ due 9_000_000_000_000_000_000 (pos 0) (negℤ (pos 45_000_000_000_000_000))
-unfolding everything heavy highest
-at-the-limit = refl
+at-the-limit : answered (heavy (pos 2_500_000_000_000_000)) 1 (highest 10_000 none)
+    (due 9_000_000_000_000_000_000 (pos 0) (negℤ (pos 45_000_000_000_000_000)) (pos 0))
+unfolding values heavy
+at-the-limit bs h b = rw (marks, marksNumber, marksTests, b, h)
 
-past-it : marks (bytesOf (heavy (pos 2_500_000_000_000_001))) 1 (highest 10_000 none) ≡ MarksRefused 16
-unfolding everything heavy highest
-past-it = refl
+past-it : answered (heavy (pos 2_500_000_000_000_001)) 1 (highest 10_000 none) (MarksRefused 16)
+unfolding values heavy
+past-it bs h b = rw (marks, marksNumber, marksTests, b, h)
 
 -- 17 before 16: one record more, with shares and no price
 unfoldable priceless : Book
@@ -85,9 +93,9 @@ priceless =
     (map (λ s. at 1 1 s (pos 0) (pos 2_500_000_000_000_000)) (from 1 17)
     ++ (at 1 1 18 (pos 1) (pos 0) ∷ at 1 2 18 (negℤ (pos 1)) (pos 0) ∷ [])))
 
-seventeen-first : marks (bytesOf priceless) 1 (highest 10_000 none) ≡ MarksRefused 17
-unfolding everything priceless highest
-seventeen-first = refl
+seventeen-first : answered priceless 1 (highest 10_000 none) (MarksRefused 17)
+unfolding values priceless
+seventeen-first bs h b = rw (marks, marksNumber, marksTests, b, h)
 
 -- ── the favourable total alone passes the limit, though nothing would be due ──
 
@@ -98,22 +106,29 @@ gains =
     ++ map (λ s. at 1 2 s (negℤ (pos 256_000_000)) (pos 0)) (from 0 18))
 
 -- 9,999,999 for each
-unfoldable top-prices : List ℕ
-top-prices = each (λ s. hex "0098967f") (from 0 18) ++ replicate 56 0
+abbrev top-prices : List ℕ
+top-prices = each (λ s. 0 ∷ 152 ∷ 150 ∷ 127 ∷ []) (from 0 18) ++ replicate 56 0
 
-gains-sound : sound gains ≡ true
-unfolding everything gains
-gains-sound = refl
+too-favourable : answered gains 1 (highest 0 top-prices) (MarksRefused 16)
+unfolding values gains
+too-favourable bs h b = rw (marks, marksNumber, marksTests, b, h)
 
-too-favourable : marks (bytesOf gains) 1 (highest 0 top-prices) ≡ MarksRefused 16
-unfolding everything gains top-prices highest
-too-favourable = refl
-
-the-other-side : marks (bytesOf gains) 2 (highest 0 top-prices) ≡ due 4_607_999_539_200_000_000 (pos 0) (negℤ (pos 46_079_995_392_000_000))
-unfolding everything gains top-prices highest
-the-other-side = refl
+the-other-side : answered gains 2 (highest 0 top-prices) (due 4_607_999_539_200_000_000 (pos 0) (negℤ (pos 46_079_995_392_000_000)) (pos 0))
+unfolding values gains
+the-other-side bs h b = rw (marks, marksNumber, marksTests, b, h)
 
 -- with the whole haircut a favourable sum counts 0, and is not refused
-counts-nothing : marks (bytesOf gains) 1 (highest 10_000 top-prices) ≡ due 0 (pos 0) (pos 92_159_995_392_000_000)
-unfolding everything gains top-prices highest
-counts-nothing = refl
+counts-nothing : answered gains 1 (highest 10_000 top-prices) (due 0 (pos 0) (pos 92_159_995_392_000_000) (pos 0))
+unfolding values gains
+counts-nothing bs h b = rw (marks, marksNumber, marksTests, b, h)
+
+-- ── all these books are sound, and those of rules/specs/MarkReadings ──
+
+books : List Book
+books =
+    two-currencies ∷ overdue ∷ heavy (pos 2_500_000_000_000_000) ∷ heavy (pos 2_500_000_000_000_001) ∷ priceless ∷ gains ∷
+    delivery ∷ owing 9 ∷ owing 10 ∷ crowded ∷ []
+
+sounds : map sound books ≡ replicate 10 true
+unfolding everything two-currencies overdue heavy priceless gains delivery owing crowded books
+sounds = refl

@@ -6,9 +6,8 @@ use Prim.Native.Nat.{ℕ}
 use lib.ListN.{replicate, set}
 use lib.IntN.{ℤ, pos, negℤ}
 use Rattle.units.specs.Units.{mils}
-use Rattle.rules.specs.Words.{each, from}
 use Rattle.rules.specs.Book.{withOpen, withDay, withList, withHoldings, withCharges, holdingAt, chargeAt, noPosition, noTrade}
-use Rattle.rules.specs.Sound.{sound}
+use Rattle.rules.specs.Sound.{recordsFit, tradesFit, sound}
 use Rattle.rules.specs.Opened.{everything}
 use Rattle.rules.specs.Written.{at, deal, bookWith}
 use Rattle.rules.specs.declared.Position.{Position}
@@ -61,10 +60,12 @@ sounds =
     heldTwice 400_000_000_000 600_000_000_000 ∷
     charge 63 3 (negℤ (pos 2_621_440_000_000_000_000)) base ∷
     charge 0 0 (pos 2_621_439_999_999_999_999) (opened (at 1 0 0 (pos 0) (negℤ (pos 1)) ∷ [])) ∷
+    -- for each account and currency: money of the account in another currency, and of another account in this one
+    charge 0 0 (pos 2_621_440_000_000_000_000) (opened (at 1 0 1 (pos 0) (pos 1) ∷ at 1 1 0 (pos 0) (pos 1) ∷ [])) ∷
     traded (deal 65_535 0 63 1 1_000_000 9_999_999 ∷ deal 2 0 0 0 0 0 ∷ deal 1 63 0 0 1 1 ∷ []) ∷
     []
 
-sounds-are : map sound sounds ≡ replicate 11 true
+sounds-are : map sound sounds ≡ replicate 12 true
 unfolding everything base opened held heldTwice charge traded sounds
 sounds-are = refl
 
@@ -82,7 +83,8 @@ unsounds =
     positionTable 0 (at 1 0 0 (pos 0) (pos 1) ∷ replicate 1_023 noPosition) ∷
     positionTable 0 (replicate 1_023 noPosition ++ (at 0 0 0 (pos 0) (pos 1) ∷ [])) ∷
     -- Quantity within 256,000,000 and money within 2,560,000,000,000,000 either side of zero, not both zero.
-    opened (at 0 0 0 (pos 256_000_001) (pos 0) ∷ at 0 1 0 (negℤ (pos 256_000_001)) (pos 0) ∷ []) ∷
+    opened (at 0 0 0 (pos 256_000_001) (pos 0) ∷ at 0 1 0 (negℤ (pos 256_000_000)) (pos 0) ∷ at 0 2 0 (negℤ (pos 1)) (pos 0) ∷ []) ∷
+    opened (at 0 0 0 (pos 256_000_000) (pos 0) ∷ at 0 1 0 (pos 1) (pos 0) ∷ at 0 2 0 (negℤ (pos 256_000_001)) (pos 0) ∷ []) ∷
     opened (at 1 0 0 (pos 0) (pos 2_560_000_000_000_001) ∷ []) ∷
     opened (at 1 0 0 (pos 0) (negℤ (pos 2_560_000_000_000_001)) ∷ []) ∷
     opened (at 1 0 0 (pos 0) (pos 0) ∷ []) ∷
@@ -126,19 +128,16 @@ unsounds =
     tradeTable 0 (deal 1 1 2 0 1 1 ∷ replicate 255 noTrade) ∷
     []
 
-unsounds-are-not : map sound unsounds ≡ replicate 38 false
+unsounds-are-not : map sound unsounds ≡ replicate 39 false
 unfolding everything base opened held heldTwice charge traded tables positionTable tradeTable unsounds
 unsounds-are-not = refl
 
--- ── counts: 1,024 records and 256 trades are sound, one more of either is not ──
+-- ── counts: 1,025 records or 257 trades break their sentence in every book. (1,024 and 256 are sound, one more of either is not: the crate sheet_examples.) ──
 
-unfoldable counted : ℕ → ℕ → Book
-counted n m =
-    let k = bookWith (replicate 32 0) in
-    let full = each (λ a. map (λ s. at 1 a s (pos 0) (pos 1)) (from 0 32)) (from 0 32) in
-    let excluded = map (λ n. deal n 0 0 0 0 0) (from 1 256) in
-    record { day = 0; currency = k .currency; records = n; positions = full; holdings = k .holdings; charges = k .charges; entries = m; trades = excluded }
+too-many-records : (k : Book) → k .records ≡ 1_025 → recordsFit k ≡ false
+unfolding recordsFit
+too-many-records k h = rw (recordsFit, h)
 
-counts-are : map sound (counted 1_024 256 ∷ counted 1_025 256 ∷ counted 1_024 257 ∷ []) ≡ true ∷ false ∷ false ∷ []
-unfolding everything counted
-counts-are = refl
+too-many-trades : (k : Book) → k .entries ≡ 257 → tradesFit k ≡ false
+unfolding tradesFit
+too-many-trades k h = rw (tradesFit, h)

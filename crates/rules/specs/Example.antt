@@ -32,7 +32,7 @@ sheet =
     ++ text "C 3 0 -4240000\n"
     ++ text "E 6\n"
 
-the-example : sheetOf example ≡ sheet
+pub the-example : sheetOf example ≡ sheet
 unfolding everything
 the-example = refl
 

@@ -2,7 +2,7 @@
 use mathlib.Core.Path.{_≡_, refl}
 use mathlib.Core.List.{List, [], _∷_, _++_, map}
 use lib.IntN.{pos, negℤ}
-use Rattle.units.specs.Figures.{Figure, parts, conversions}
+use Rattle.units_rounded.specs.Figures.{Figure, parts, conversions}
 use Rattle.rules.specs.Book.{quantityOf, moneyOf}
 use Rattle.rules.specs.Nets.{netOf}
 use Rattle.rules.specs.Marks.{markOf}

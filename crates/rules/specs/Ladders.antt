@@ -1,204 +1,61 @@
--- Refusals of the calls of a file, each in the call that gives it and in ascending order: the first fault decides (document 01, "Refusal numbers").
+-- Refusals of the calls, each in the call that gives it and in ascending order: the first fault decides (document 01, "Refusal numbers").
+-- The calls meet a sound book as values; their call files and sheets: the crate sheet_examples.
 use mathlib.Core.Path.{_≡_, refl}
-use mathlib.Core.List.{List, [], _∷_, _++_}
+use mathlib.Core.List.{List, [], _∷_}
 use Prim.Native.Nat.{ℕ}
-use Rattle.rules.specs.Words.{text}
-use Rattle.rules.specs.Sheet.{sheetOf}
+use Rattle.rules.specs.Calls.{Call, enter, amend, exclude, roll, deposit, withdraw, run}
 use Rattle.rules.specs.Opened.{everything}
-use Rattle.rules.specs.Written.{hex, created}
+use Rattle.rules.specs.Written.{deal, bookWith, answers}
 
--- each record but the last mends the fault that the one before it was refused for
-abbrev entering-file : List ℕ
-entering-file =
-    created (0 ∷ [])
-    -- enter 1: 64 buys 0 of 99 from 64 at 0
-    ++ hex "000e 01 0001 40 40 63 00000000 00000000"
-    -- enter 1: 1 buys 0 of 99 from 1 at 0
-    ++ hex "000e 01 0001 01 01 63 00000000 00000000"
-    -- enter 1: 1 buys 0 of 0 from 1 at 0
-    ++ hex "000e 01 0001 01 01 00 00000000 00000000"
-    -- enter 1: 1 buys 1 of 0 from 1 at 0
-    ++ hex "000e 01 0001 01 01 00 00000001 00000000"
-    -- enter 0: 1 buys 1 of 0 from 1 at 1
-    ++ hex "000e 01 0000 01 01 00 00000001 00000001"
-    -- enter 0: 1 buys 1 of 0 from 2 at 1
-    ++ hex "000e 01 0000 01 02 00 00000001 00000001"
-    -- exclude 5
-    ++ hex "0003 03 0005"
-    -- deposit 0 of 0 to 1
-    ++ hex "000b 05 01 00 0000000000000000"
-    -- withdraw 1 of 0 from 1
-    ++ hex "000b 06 01 00 0000000000000001"
-    -- deposit 1,000,000,000,000 of 0 to 1
-    ++ hex "000b 05 01 00 000000e8d4a51000"
-    -- deposit 1 of 0 to 2
-    ++ hex "000b 05 02 00 0000000000000001"
-    -- run 1
-    ++ hex "0002 07 01"
-    -- run 0
-    ++ hex "0002 07 00"
+-- security 0 in currency 0, the others unlisted
+abbrev answered : List Call → List ℕ
+answered calls = answers (bookWith (0 ∷ [])) calls
 
-entering : sheetOf entering-file ≡ text "R 1 2\n"
-    ++ text "R 2 3\n"
-    ++ text "R 3 4\n"
-    ++ text "R 4 5\n"
-    ++ text "R 5 6\n"
-    ++ text "R 6 7\n"
-    ++ text "R 7 8\n"
-    ++ text "R 8 4\n"
-    ++ text "R 9 11\n"
-    ++ text "R 11 12\n"
-    ++ text "R 12 3\n"
-    ++ text "DAY 0\n"
-    ++ text "E 12\n"
+-- each call but the last mends the fault that the one before it was refused for
+entering : answered
+    (enter (deal 1 64 64 99 0 0) ∷ enter (deal 1 1 1 99 0 0) ∷ enter (deal 1 1 1 0 0 0) ∷ enter (deal 1 1 1 0 1 0)
+    ∷ enter (deal 0 1 1 0 1 1) ∷ enter (deal 0 1 2 0 1 1) ∷ exclude 5 ∷ deposit 1 0 0 ∷ withdraw 1 0 1
+    ∷ deposit 1 0 1_000_000_000_000 ∷ deposit 2 0 1 ∷ run 1 ∷ run 0 ∷ [])
+    ≡ 2 ∷ 3 ∷ 4 ∷ 5 ∷ 6 ∷ 7 ∷ 8 ∷ 4 ∷ 11 ∷ 0 ∷ 12 ∷ 3 ∷ 0 ∷ []
 unfolding everything
 entering = refl
 
 -- the seller alone above 63; security 32, and an unlisted one; 1,000,001 shares; price 10,000,000; then both at their bounds, and the number again
-abbrev bounds-file : List ℕ
-bounds-file =
-    created (0 ∷ [])
-    -- enter 1: 1 buys 1 of 0 from 64 at 1
-    ++ hex "000e 01 0001 01 40 00 00000001 00000001"
-    -- enter 1: 1 buys 1 of 32 from 2 at 1
-    ++ hex "000e 01 0001 01 02 20 00000001 00000001"
-    -- enter 1: 1 buys 1 of 1 from 2 at 1
-    ++ hex "000e 01 0001 01 02 01 00000001 00000001"
-    -- enter 1: 1 buys 1,000,001 of 0 from 2 at 1
-    ++ hex "000e 01 0001 01 02 00 000f4241 00000001"
-    -- enter 1: 1 buys 1 of 0 from 2 at 10,000,000
-    ++ hex "000e 01 0001 01 02 00 00000001 00989680"
-    -- enter 1: 1 buys 1,000,000 of 0 from 2 at 9,999,999
-    ++ hex "000e 01 0001 01 02 00 000f4240 0098967f"
-    -- enter 1: 1 buys 1 of 0 from 2 at 1
-    ++ hex "000e 01 0001 01 02 00 00000001 00000001"
-
-bounds : sheetOf bounds-file ≡ text "R 1 2\n"
-    ++ text "R 2 3\n"
-    ++ text "R 3 3\n"
-    ++ text "R 4 4\n"
-    ++ text "R 5 5\n"
-    ++ text "R 7 7\n"
-    ++ text "DAY 0\n"
-    ++ text "E 7\n"
+bounds : answered
+    (enter (deal 1 1 64 0 1 1) ∷ enter (deal 1 1 2 32 1 1) ∷ enter (deal 1 1 2 1 1 1) ∷ enter (deal 1 1 2 0 1_000_001 1)
+    ∷ enter (deal 1 1 2 0 1 10_000_000) ∷ enter (deal 1 1 2 0 1_000_000 9_999_999) ∷ enter (deal 1 1 2 0 1 1) ∷ [])
+    ≡ 2 ∷ 3 ∷ 3 ∷ 4 ∷ 5 ∷ 0 ∷ 7 ∷ []
 unfolding everything
 bounds = refl
 
 -- a number that is not in the list comes last
-abbrev amending-file : List ℕ
-amending-file =
-    created (0 ∷ [])
-    -- amend 9: 64 buys 0 of 99 from 64 at 0
-    ++ hex "000e 02 0009 40 40 63 00000000 00000000"
-    -- amend 9: 1 buys 0 of 99 from 1 at 0
-    ++ hex "000e 02 0009 01 01 63 00000000 00000000"
-    -- amend 9: 1 buys 0 of 0 from 1 at 0
-    ++ hex "000e 02 0009 01 01 00 00000000 00000000"
-    -- amend 9: 1 buys 1 of 0 from 1 at 0
-    ++ hex "000e 02 0009 01 01 00 00000001 00000000"
-    -- amend 9: 1 buys 1 of 0 from 1 at 1
-    ++ hex "000e 02 0009 01 01 00 00000001 00000001"
-    -- amend 9: 1 buys 1 of 0 from 2 at 1
-    ++ hex "000e 02 0009 01 02 00 00000001 00000001"
-    -- amend 0: 1 buys 1 of 0 from 2 at 1
-    ++ hex "000e 02 0000 01 02 00 00000001 00000001"
-
-amending : sheetOf amending-file ≡ text "R 1 2\n"
-    ++ text "R 2 3\n"
-    ++ text "R 3 4\n"
-    ++ text "R 4 5\n"
-    ++ text "R 5 6\n"
-    ++ text "R 6 8\n"
-    ++ text "R 7 8\n"
-    ++ text "DAY 0\n"
-    ++ text "E 8\n"
+amending : answered
+    (amend (deal 9 64 64 99 0 0) ∷ amend (deal 9 1 1 99 0 0) ∷ amend (deal 9 1 1 0 0 0) ∷ amend (deal 9 1 1 0 1 0)
+    ∷ amend (deal 9 1 1 0 1 1) ∷ amend (deal 9 1 2 0 1 1) ∷ amend (deal 0 1 2 0 1 1) ∷ [])
+    ≡ 2 ∷ 3 ∷ 4 ∷ 5 ∷ 6 ∷ 8 ∷ 8 ∷ []
 unfolding everything
 amending = refl
 
 -- an excluded number is used, and is free again after the roll
-abbrev excluding-file : List ℕ
-excluding-file =
-    created (0 ∷ [])
-    -- enter 7: 1 buys 5 of 0 from 2 at 10
-    ++ hex "000e 01 0007 01 02 00 00000005 0000000a"
-    -- exclude 7
-    ++ hex "0003 03 0007"
-    -- enter 7: 1 buys 5 of 0 from 2 at 10
-    ++ hex "000e 01 0007 01 02 00 00000005 0000000a"
-    -- amend 7: 1 buys 5 of 0 from 2 at 10
-    ++ hex "000e 02 0007 01 02 00 00000005 0000000a"
-    -- exclude 7
-    ++ hex "0003 03 0007"
-    -- exclude 0
-    ++ hex "0003 03 0000"
-    -- roll
-    ++ hex "0001 04"
-    -- enter 7: 1 buys 5 of 0 from 2 at 10
-    ++ hex "000e 01 0007 01 02 00 00000005 0000000a"
-    -- roll
-    ++ hex "0001 04"
-
-excluding : sheetOf excluding-file ≡ text "R 3 7\n"
-    ++ text "R 4 8\n"
-    ++ text "R 5 8\n"
-    ++ text "R 6 8\n"
-    ++ text "DAY 2\n"
-    ++ text "P 6176 1 0 5 50\n"
-    ++ text "P 6208 2 0 -5 -50\n"
-    ++ text "E 7\n"
+excluding : answered
+    (enter (deal 7 1 2 0 5 10) ∷ exclude 7 ∷ enter (deal 7 1 2 0 5 10) ∷ amend (deal 7 1 2 0 5 10) ∷ exclude 7 ∷ exclude 0
+    ∷ roll ∷ enter (deal 7 1 2 0 5 10) ∷ roll ∷ [])
+    ≡ 0 ∷ 0 ∷ 7 ∷ 8 ∷ 8 ∷ 8 ∷ 0 ∷ 0 ∷ 0 ∷ []
 unfolding everything
 excluding = refl
 
 -- deposits and withdrawals: 10^12 and one more, more than the account holds, the total over all accounts
-abbrev holding-file : List ℕ
-holding-file =
-    created (0 ∷ [])
-    -- deposit 0 of 1 to 64
-    ++ hex "000b 05 40 01 0000000000000000"
-    -- deposit 0 of 1 to 1
-    ++ hex "000b 05 01 01 0000000000000000"
-    -- deposit 1 of 32 to 1
-    ++ hex "000b 05 01 20 0000000000000001"
-    -- deposit 1,000,000,000,001 of 0 to 1
-    ++ hex "000b 05 01 00 000000e8d4a51001"
-    -- deposit 18,446,744,073,709,551,615 of 0 to 1
-    ++ hex "000b 05 01 00 ffffffffffffffff"
-    -- withdraw 0 of 1 from 64
-    ++ hex "000b 06 40 01 0000000000000000"
-    -- withdraw 0 of 1 from 1
-    ++ hex "000b 06 01 01 0000000000000000"
-    -- withdraw 0 of 0 from 1
-    ++ hex "000b 06 01 00 0000000000000000"
-    -- withdraw 1,000,000,000,001 of 0 from 1
-    ++ hex "000b 06 01 00 000000e8d4a51001"
-    -- deposit 5 of 0 to 1
-    ++ hex "000b 05 01 00 0000000000000005"
-    -- withdraw 6 of 0 from 1
-    ++ hex "000b 06 01 00 0000000000000006"
-    -- withdraw 5 of 0 from 1
-    ++ hex "000b 06 01 00 0000000000000005"
-    -- deposit 999,999,999,999 of 0 to 1
-    ++ hex "000b 05 01 00 000000e8d4a50fff"
-    -- deposit 1 of 0 to 2
-    ++ hex "000b 05 02 00 0000000000000001"
-    -- deposit 1 of 0 to 3
-    ++ hex "000b 05 03 00 0000000000000001"
-    -- run 32
-    ++ hex "0002 07 20"
-
-holding : sheetOf holding-file ≡ text "R 1 2\n"
-    ++ text "R 2 3\n"
-    ++ text "R 3 3\n"
-    ++ text "R 4 4\n"
-    ++ text "R 5 4\n"
-    ++ text "R 6 2\n"
-    ++ text "R 7 3\n"
-    ++ text "R 8 4\n"
-    ++ text "R 9 4\n"
-    ++ text "R 11 11\n"
-    ++ text "R 15 12\n"
-    ++ text "R 16 3\n"
-    ++ text "DAY 0\n"
-    ++ text "E 13\n"
+holding : answered
+    (deposit 64 1 0 ∷ deposit 1 1 0 ∷ deposit 1 32 1 ∷ deposit 1 0 1_000_000_000_001 ∷ deposit 1 0 18_446_744_073_709_551_615
+    ∷ withdraw 64 1 0 ∷ withdraw 1 1 0 ∷ withdraw 1 0 0 ∷ withdraw 1 0 1_000_000_000_001 ∷ deposit 1 0 5 ∷ withdraw 1 0 6 ∷ withdraw 1 0 5
+    ∷ deposit 1 0 999_999_999_999 ∷ deposit 2 0 1 ∷ deposit 3 0 1 ∷ run 32 ∷ [])
+    ≡ 2 ∷ 3 ∷ 3 ∷ 4 ∷ 4 ∷ 2 ∷ 3 ∷ 4 ∷ 4 ∷ 0 ∷ 11 ∷ 0 ∷ 0 ∷ 0 ∷ 12 ∷ 3 ∷ []
 unfolding everything
 holding = refl
+
+-- 12 is of one security: the other one still takes 10^12
+other-security : answers (bookWith (0 ∷ 0 ∷ []))
+    (deposit 1 0 1_000_000_000_000 ∷ deposit 2 1 1 ∷ deposit 1 1 999_999_999_999 ∷ deposit 3 1 1 ∷ [])
+    ≡ 0 ∷ 0 ∷ 0 ∷ 12 ∷ []
+unfolding everything
+other-security = refl

@@ -25,3 +25,4 @@ pub mod Readings
 pub mod Ladders
 pub mod Orders
 pub mod Clauses
+pub mod MarkReadings

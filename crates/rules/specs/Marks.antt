@@ -7,7 +7,7 @@ use lib.ListN.{length, getD}
 use lib.IntN.{ℤ, pos, _-ℤ_, _*ℤ_}
 use Rattle.integers.specs.Sums.{sumBy}
 use Rattle.units.specs.Units.{milsOf, mils, topRate, wholeHaircut}
-use Rattle.units.specs.Conversion.{favourableOf, unfavourableOf}
+use Rattle.units_rounded.specs.Conversion.{favourableOf, unfavourableOf}
 use Rattle.rules.specs.Words.{any, keep, total, above, outside, Test, first}
 use Rattle.rules.specs.Bounds.{currencies, everyCurrency, baseRate, mostConverted}
 use Rattle.rules.specs.Book.{quantityOf, moneyOf, isZero, securityOf, openOf, currencyOf}
@@ -113,7 +113,16 @@ unfoldable pub marks : List ℕ → ℕ → Terms → MarksAnswer
 marks bs a t =
     cond (eqb (marksNumber bs a t) 0) (dueAndSums (bookOf bs) t (markedOf (bookOf bs) a)) (MarksRefused (marksNumber bs a t))
 
--- the paper's number of an answer, and its five figures: zero in each when refused
+-- the five figures: the due and the four sums, zero in each when refused
+unfoldable pub marksFigures : List ℕ → ℕ → Terms → List ℤ
+marksFigures bs a t =
+    let k = bookOf bs in
+    let ps = markedOf k a in
+    cond (eqb (marksNumber bs a t) 0)
+    (pos (unfavourableTotal k t ps - favourableTotal k t ps) ∷ sumOf k t ps 0 ∷ sumOf k t ps 1 ∷ sumOf k t ps 2 ∷ sumOf k t ps 3 ∷ [])
+    (pos 0 ∷ pos 0 ∷ pos 0 ∷ pos 0 ∷ pos 0 ∷ [])
+
+-- the paper's number of an answer, and its five figures
 unfoldable pub numberOfMarks : MarksAnswer → ℕ
 numberOfMarks (Due due a b c d) = 0
 numberOfMarks (MarksRefused n) = n

@@ -3,7 +3,7 @@ use mathlib.Core.List.{List}
 use Prim.Native.Nat.{ℕ}
 use lib.IntN.{ℤ, _-ℤ_}
 use Rattle.integers.specs.Signs.{towardZero}
-use Rattle.units.specs.Part.{partOf}
+use Rattle.units_rounded.specs.Part.{partOf}
 use Rattle.units.specs.Units.{shares, mils}
 use Rattle.units.specs.declared.Mils.{Mils}
 use Rattle.rules.specs.Book.{quantityOf, moneyOf, accountOf, securityOf, currencyOf, chargeAt, charged}

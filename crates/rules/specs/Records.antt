@@ -148,3 +148,42 @@ figureOfRecord (Answered number moved next) = sharesOf moved
 figureOfRecord (Unreadable place) = pos place
 figureOfRecord Ended = pos 0
 figureOfRecord (FileRefused number) = pos 0
+
+-- the place of the record behind an answered one; 0, where no record begins, if nothing is to follow (the end, a 19, an 18)
+unfoldable pub nextOfRecord : RecordAnswer → ℕ
+nextOfRecord (Answered number moved next) = next
+nextOfRecord (Unreadable place) = 0
+nextOfRecord Ended = 0
+nextOfRecord (FileRefused number) = 0
+
+-- ── the same by what stands at the place ──
+
+-- 18; then 19 for another version; the end; and what is there: a create is accepted, another call has its own number, and what can't be read has 19.
+unfoldable pub numberAt : List ℕ → Record → ℕ
+numberAt book (create codes) = 0
+numberAt book (call c) = answerBytes book c
+numberAt book unreadable = 19
+
+unfoldable pub recordNumber : List ℕ → List ℕ → ℕ → ℕ
+recordNumber book file place =
+    cond (fileRefused book file) 18 (cond (otherVersion file) 19 (cond (pastEnd file place) 0 (numberAt book (recordAt file place))))
+
+-- the figure of its call, or the place of a 19 (0 for the version)
+unfoldable pub figureAt : List ℕ → ℕ → Record → ℕ
+figureAt book place (create codes) = 0
+figureAt book place (call c) = figureBytes book c
+figureAt book place unreadable = place
+
+unfoldable pub recordFigure : List ℕ → List ℕ → ℕ → ℕ
+recordFigure book file place =
+    cond (fileRefused book file) 0 (cond (otherVersion file) 0 (cond (pastEnd file place) 0 (figureAt book place (recordAt file place))))
+
+-- "each with a 2-byte big-endian length of what follows it": the next record stands behind it
+unfoldable pub nextAt : List ℕ → ℕ → Record → ℕ
+nextAt file place (create codes) = place + 2 + lengthOf (drop place file)
+nextAt file place (call c) = place + 2 + lengthOf (drop place file)
+nextAt file place unreadable = 0
+
+unfoldable pub recordNext : List ℕ → List ℕ → ℕ → ℕ
+recordNext book file place =
+    cond (fileRefused book file) 0 (cond (otherVersion file) 0 (cond (pastEnd file place) 0 (nextAt file place (recordAt file place))))
