@@ -1,16 +1,19 @@
--- What the theorems about totals count: open shares, open and charged money, shares deposited and withdrawn (demand 3).
+-- What the theorems about totals and holdings count: open shares, open and charged money, shares deposited and withdrawn, shares held in a run (demand 3).
 use mathlib.Core.Bool.{cond, _&&_}
 use mathlib.Core.List.{List, [], _∷_}
 use Prim.Native.Nat.{ℕ}
 use lib.Dec.{eqb}
+use lib.ListN.{getD}
 use lib.IntN.{ℤ, _+ℤ_}
 use Rattle.integers.specs.Sums.{sumBy}
 use Rattle.rules.specs.Words.{keep, total}
 use Rattle.rules.specs.Bounds.{everyAccount}
-use Rattle.rules.specs.Book.{quantityOf, moneyOf, securityOf, openOf, currencyOf, chargeOf}
+use Rattle.rules.specs.Book.{quantityOf, moneyOf, securityOf, openOf, currencyOf, holdingAt, chargeOf}
+use Rattle.rules.specs.Run.{Meeting, taken}
 use Rattle.rules.specs.Calls.{Call, enter, amend, exclude, roll, deposit, withdraw, run}
 use Rattle.rules.specs.CallFile.{left}
 use Rattle.rules.specs.declared.Book.{Book}
+use Rattle.laws.specs.Backed.{unmet}
 use Rattle.history.specs.Histories.{accepted, logOf, isRoll}
 
 -- ── shares and money, over all accounts ──
@@ -59,3 +62,9 @@ deposited k cs s = total (bringsIn s) (logOf k cs)
 
 unfoldable pub withdrawn : Book → List Call → ℕ → ℕ
 withdrawn k cs s = total (takesOut s) (logOf k cs)
+
+-- ── holdings in a run ──
+
+-- what an account holds of security s at the moment behind the meetings ms of a run of it
+unfoldable pub heldThen : Book → ℕ → List Meeting → ℕ → ℕ
+heldThen k s ms a = getD (taken k s (unmet k) ms .holdings) (holdingAt a s) 0

@@ -15,14 +15,15 @@ use Rattle.rules.specs.declared.Trade.{Trade}
 use Rattle.rules.specs.declared.Book.{Book}
 use Rattle.laws.specs.Keeping.{keep-append, keep-passes, keep-whole}
 use Rattle.laws.specs.Listed.{listable}
-use Rattle.history.specs.Histories.{made, logOf, isOther, rolls, others, survivors, tidy, SameRoll}
+use Rattle.history.specs.Histories.{made, logOf, isOther, rolls, others, lastForms, tidy, survivors, SameRoll}
 use Rattle.history.specs.Steps.{Good, answer-sound, made-good}
 use Rattle.history.specs.Rest.{bare, with-bare, whole, few, apart, all-listable, list-long}
 use Rattle.history.specs.Alike.{roll-alike}
-use Rattle.history.specs.Survivors.{numbersOf, nets-survivors, nets-order, survivors-live, survivors-few, survivors-all, survivors-again, survivors-distinct}
+use Rattle.history.specs.Survivors.{live, numbersOf, nets-survivors, nets-order, survivors-live, survivors-few, survivors-all, survivors-again, survivors-distinct}
 use Rattle.history.specs.Logs.{made-append, log-append}
 use Rattle.history.specs.Following.{others-rest, others-list, others-log}
 use Rattle.history.specs.Entering.{Enterable, Entered, all-entered}
+use Rattle.history.specs.Surviving.{survivors-log}
 
 -- what the list may have reads the rest alone
 listable-bare : (k : Book) (ts : List Trade) → all (listable k) ts ≡ true → all (listable (bare k)) ts ≡ true
@@ -50,8 +51,19 @@ module _ (k : Book) (g : Good k) (morning : listOf k ≡ []) (cs : List Call) (d
   end-good : Good end
   end-good = made-good k cs g
 
+  -- the survivors, by the log; they are those of the list
   abbrev us : List Trade
-  us = survivors (listOf end)
+  us = lastForms (logOf k cs)
+
+  same-us : survivors (listOf end) ≡ us
+  same-us = survivors-log k cs g morning
+
+  us-live : all live us ≡ true
+  us-live = rw (sym same-us) (survivors-live (listOf end))
+
+  -- each number stands once
+  pub us-once : distinct (numbersOf us) ≡ true
+  us-once = rw (sym same-us) (survivors-distinct (listOf end) (apart end end-good))
 
   -- after the deposits, withdrawals and runs
   abbrev noon : Book
@@ -63,10 +75,11 @@ module _ (k : Book) (g : Good k) (morning : listOf k ≡ []) (cs : List Call) (d
   enterable : Enterable noon us
   enterable =
       record {
-        lives = survivors-live (listOf end);
-        sound = rw (others-rest k g cs day) (listable-bare end us (survivors-all (listable end) (listOf end) (all-listable end end-good)));
-        apart = rw noon-list (survivors-distinct (listOf end) (apart end end-good));
-        room = omega (arith, ap length noon-list, survivors-few (listOf end), list-long end end-good, few end end-good);
+        lives = us-live;
+        sound = rw (others-rest k g cs day, sym same-us)
+            (listable-bare end (survivors (listOf end)) (survivors-all (listable end) (listOf end) (all-listable end end-good)));
+        apart = rw noon-list us-once;
+        room = omega (arith, ap length noon-list, ap length same-us, survivors-few (listOf end), list-long end end-good, few end end-good);
       }
 
   in-turn : Entered noon us
@@ -101,26 +114,23 @@ module _ (k : Book) (g : Good k) (morning : listOf k ≡ []) (cs : List Call) (d
       ap (keep isOther) tidy-log ∙ keep-append isOther os (map enter us)
       ∙ rw (keep-whole isOther os (keep-passes isOther (logOf k cs)), no-others us, append-nil os)
 
-  pub tidy-survivors : survivors (listOf (made k (tidy k cs))) ≡ us
-  tidy-survivors = ap survivors tidy-list ∙ survivors-again us (survivors-live (listOf end))
+  pub tidy-forms : lastForms (logOf k (tidy k cs)) ≡ us
+  tidy-forms = sym (survivors-log k (tidy k cs) g morning) ∙ ap survivors tidy-list ∙ survivors-again us us-live
 
   -- the roll behind the day is the roll behind the tidy day
   pub tidy-roll : SameRoll end (made k (tidy k cs))
   tidy-roll =
       same-roll end (made k (tidy k cs)) end-good (made-good k (tidy k cs) g) (sym tidy-rest)
-      (λ due. sym (nets-survivors due (listOf end)) ∙ ap (nets due) (sym tidy-list))
-
-  -- each survivor's number stands once
-  pub survivors-once : distinct (numbersOf us) ≡ true
-  survivors-once = survivors-distinct (listOf end) (apart end end-good)
+      (λ due. sym (nets-survivors due (listOf end)) ∙ ap (nets due) (same-us ∙ sym tidy-list))
 
 -- ── any two days with the same deposits, withdrawals and runs, and the same survivors in any order ──
 
-pub any-roll : (k : Book) → Good k → (cs ds : List Call) → rolls k cs ≡ false → rolls k ds ≡ false → others k cs ≡ others k ds
-    → Perm (survivors (listOf (made k cs))) (survivors (listOf (made k ds))) → SameRoll (made k cs) (made k ds)
-any-roll k g cs ds c d e p =
+pub any-roll : (k : Book) → Good k → listOf k ≡ [] → (cs ds : List Call) → rolls k cs ≡ false → rolls k ds ≡ false → others k cs ≡ others k ds
+    → Perm (lastForms (logOf k cs)) (lastForms (logOf k ds)) → SameRoll (made k cs) (made k ds)
+any-roll k g morning cs ds c d e p =
     same-roll (made k cs) (made k ds) (made-good k cs g) (made-good k ds g)
     (sym (others-rest k g cs c) ∙ ap (λ (os : List Call). bare (made k os)) e ∙ others-rest k g ds d)
-    (λ due. let us = survivors (listOf (made k cs)) in
-    let vs = survivors (listOf (made k ds)) in
-    sym (nets-survivors due (listOf (made k cs))) ∙ nets-order due us vs p ∙ nets-survivors due (listOf (made k ds)))
+    (λ due. nets-log due cs ∙ nets-order due (lastForms (logOf k cs)) (lastForms (logOf k ds)) p ∙ sym (nets-log due ds))
+  where
+    nets-log : (due : ℕ) (bs : List Call) → nets due (listOf (made k bs)) ≡ nets due (lastForms (logOf k bs))
+    nets-log due bs = sym (nets-survivors due (listOf (made k bs))) ∙ ap (nets due) (survivors-log k bs g morning)

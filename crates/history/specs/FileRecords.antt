@@ -13,7 +13,7 @@ use Rattle.fields.specs.Codec.{bytes-drop}
 use Rattle.rules.specs.Words.{all}
 use Rattle.rules.specs.Bounds.{securities}
 use Rattle.rules.specs.Sound.{isCode}
-use Rattle.rules.specs.Records.{Record, create, call, unreadable, Form, lengthOf, tradeIn, formsOf, readAs, isCut, frontOf, inPlace, otherVersion}
+use Rattle.rules.specs.Records.{Record, create, call, unreadable, Form, lengthOf, tradeIn, formsOf, readAs, isCut, frontOf, inPlace, recordAt, otherVersion}
 use Rattle.rules.specs.CallFile.{Placed, isUnreadable, recordsFrom, behindVersion, recordsIn}
 use Rattle.laws.specs.Cases.{by-test, both-hold, neither}
 use Rattle.laws.specs.Fitting.{TradeFits, HoldingFits, CallFits}
@@ -115,6 +115,11 @@ front-fair bs h =
     let fine = bytes-take (lengthOf bs) (drop 2 bs) (bytes-drop 2 bs h) in
     by-test (isCut bs) (λ y. rw y none-said)
     (λ n. rw n (read-fair (field 1 2 bs) (lengthOf bs) (formsOf body) (forms-fair (lengthOf bs) body fine (not-cut bs n))))
+
+-- the record at a place
+pub record-proper : (file : List ℕ) (place : ℕ) → Bytes file → Proper (recordAt file place)
+unfolding recordAt
+record-proper file place h = place-proper place (frontOf (drop place file)) (front-fair (drop place file) (bytes-drop place file h))
 
 -- ── all records of a file ──
 

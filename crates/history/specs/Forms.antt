@@ -73,15 +73,15 @@ entered-other n (x ∷ ts) t e = stand-behind n x (entered ts t) ts (entered-oth
 -- ── replacement ──
 
 module _ (ts : List Trade) (u : Trade) (m : ℕ) (t : Trade) where
-  replaced-here : eqb (u .number) m ≡ true → replaced (u ∷ ts) m t ≡ t ∷ replaced ts m t
+  pub replaced-here : eqb (u .number) m ≡ true → replaced (u ∷ ts) m t ≡ t ∷ replaced ts m t
   unfolding replaced
   replaced-here e = ap (λ (x : Trade). x ∷ replaced ts m t) (cond-yes t u e)
 
-  replaced-past : eqb (u .number) m ≡ false → replaced (u ∷ ts) m t ≡ u ∷ replaced ts m t
+  pub replaced-past : eqb (u .number) m ≡ false → replaced (u ∷ ts) m t ≡ u ∷ replaced ts m t
   unfolding replaced
   replaced-past e = ap (λ (x : Trade). x ∷ replaced ts m t) (cond-no t u e)
 
-replaced-none : (m : ℕ) (t : Trade) → replaced [] m t ≡ []
+pub replaced-none : (m : ℕ) (t : Trade) → replaced [] m t ≡ []
 unfolding replaced
 replaced-none m t = refl
 
@@ -119,7 +119,7 @@ excluded-same m (u ∷ ts) =
 -- ── the calls ──
 
 -- a valid trade has shares
-valid-live : (k : Book) (t : Trade) → validTrade k t ≡ true → live t ≡ true
+pub valid-live : (k : Book) (t : Trade) → validTrade k t ≡ true → live t ≡ true
 unfolding badQuantity isExcluded
 valid-live k t e =
     let r = neither (ltb (t .quantity) 1) (ltb mostTraded (t .quantity)) (faultless k t e .quantity) in

@@ -7,7 +7,6 @@ use mathlib.Core.List.{List, [], _∷_, _++_, map}
 use Prim.Native.Nat.{ℕ}
 use lib.Dec.{eqb}
 use Rattle.rules.specs.Words.{any, keep}
-use Rattle.rules.specs.Book.{listOf}
 use Rattle.rules.specs.Trades.{isExcluded}
 use Rattle.rules.specs.Calls.{Call, enter, amend, exclude, roll, deposit, withdraw, run, after, answer}
 use Rattle.rules.specs.CallFile.{left}
@@ -59,14 +58,34 @@ rolls k cs = any isRoll (logOf k cs)
 unfoldable pub others : Book → List Call → List Call
 others k cs = keep isOther (logOf k cs)
 
--- the trades of a list that are not excluded, in their order
-unfoldable pub survivors : List Trade → List Trade
-survivors ts = keep (λ t. not (isExcluded t)) ts
+-- ── the trades that survived a day, by its log alone ──
+
+-- what the calls of a log leave of a trade that was entered before them: its last form; nothing where it was excluded, or the day is over
+unfoldable pub lastOf : Trade → List Call → List Trade
+lastOf t [] = t ∷ []
+lastOf t (enter u ∷ cs) = lastOf t cs
+lastOf t (amend u ∷ cs) = lastOf (cond (eqb (u .number) (t .number)) u t) cs
+lastOf t (exclude n ∷ cs) = let kept = lastOf t cs in cond (eqb n (t .number)) [] kept
+lastOf t (roll ∷ cs) = []
+lastOf t (deposit a s q ∷ cs) = lastOf t cs
+lastOf t (withdraw a s q ∷ cs) = lastOf t cs
+lastOf t (run s ∷ cs) = lastOf t cs
+
+-- Each trade that was entered and not excluded, once, in its last accepted form, in the order of entry.
+unfoldable pub lastForms : List Call → List Trade
+lastForms [] = []
+lastForms (enter t ∷ cs) = lastOf t cs ++ lastForms cs
+lastForms (amend t ∷ cs) = lastForms cs
+lastForms (exclude n ∷ cs) = lastForms cs
+lastForms (roll ∷ cs) = lastForms cs
+lastForms (deposit a s q ∷ cs) = lastForms cs
+lastForms (withdraw a s q ∷ cs) = lastForms cs
+lastForms (run s ∷ cs) = lastForms cs
 
 -- the same day without corrections: the same accepted deposits, withdrawals and runs in the same order, and only the trades that survived,
--- each entered once
+-- each once, in its last accepted form
 unfoldable pub tidy : Book → List Call → List Call
-tidy k cs = others k cs ++ map enter (survivors (listOf (made k cs)))
+tidy k cs = others k cs ++ map enter (lastForms (logOf k cs))
 
 -- the calls os, and the entries of the trades us, each in their order, however they lie between each other
 pub data Interleaved : List Call → List Trade → List Call → Type 0 where
@@ -74,7 +93,7 @@ pub data Interleaved : List Call → List Trade → List Call → Type 0 where
   next-call : {c : Call} {os ds : List Call} {us : List Trade} → Interleaved os us ds → Interleaved (c ∷ os) us (c ∷ ds)
   next-entry : {t : Trade} {os ds : List Call} {us : List Trade} → Interleaved os us ds → Interleaved os (t ∷ us) (enter t ∷ ds)
 
--- ── the last accepted form of a trade, by the log alone ──
+-- ── the last accepted form of a number, by the log alone ──
 
 unfoldable pub formAfter : ℕ → Option Trade → Call → Option Trade
 formAfter n o (enter t) = cond (eqb (t .number) n) (some t) o
@@ -94,6 +113,10 @@ lastForm n o (c ∷ cs) = lastForm n (formAfter n o c) cs
 unfoldable pub find : ℕ → List Trade → Option Trade
 find n [] = none
 find n (t ∷ ts) = let other = find n ts in cond (eqb (t .number) n) (some t) other
+
+-- the trades of a list that are not excluded, in their order
+unfoldable pub survivors : List Trade → List Trade
+survivors ts = keep (λ t. not (isExcluded t)) ts
 
 -- ── many days: the calls up to the last accepted roll, and those behind it ──
 

@@ -1,6 +1,6 @@
 -- The survivors of a day, in any order and however their entries lie between the day's accepted deposits, withdrawals and runs: every call is accepted, and the roll
 -- behind them is the day's (demand 3).
-use mathlib.Core.Path.{_≡_, refl, sym, ap, _∙_}
+use mathlib.Core.Path.{_≡_, refl, sym, ap, subst, _∙_}
 use mathlib.Core.Bool.{true, false}
 use mathlib.Core.List.{List, [], _∷_, _++_, append-nil, Perm, Perm·map}
 use Prim.Native.Nat.{ℕ, _≤_}
@@ -19,7 +19,7 @@ use Rattle.laws.specs.Cases.{by-test}
 use Rattle.laws.specs.All.{all-cons}
 use Rattle.laws.specs.Keeping.{keep-passes}
 use Rattle.laws.specs.Listed.{listable}
-use Rattle.history.specs.Histories.{accepted, made, logOf, isOther, rolls, others, survivors, Interleaved, nothing, next-call, next-entry, SameRoll}
+use Rattle.history.specs.Histories.{accepted, made, logOf, isOther, rolls, others, lastForms, survivors, Interleaved, nothing, next-call, next-entry, SameRoll}
 use Rattle.history.specs.Steps.{Good, took, after-good, after-currency, made-currency, made-good}
 use Rattle.history.specs.Rest.{bare, few, apart, all-listable, list-long}
 use Rattle.history.specs.Alike.{other-list}
@@ -27,6 +27,7 @@ use Rattle.history.specs.Survivors.{live, numbersOf, nets-survivors, net
 use Rattle.history.specs.Logs.{made-yes, log-yes, log-no}
 use Rattle.history.specs.Following.{alike-answer, alike-rest, others-rest, others-log}
 use Rattle.history.specs.Entering.{Enterable, next-rest, next-behind, entry-taken, next-good, next-enterable}
+use Rattle.history.specs.Surviving.{survivors-log}
 use Rattle.history.specs.Days.{same-roll}
 use Rattle.history.specs.Orders.{length-order, all-order, distinct-order}
 
@@ -101,12 +102,16 @@ stand (next-entry {t = u} {os = os} {ds = ds} {us = us} m) i j g h e t o f =
 -- ── the day ──
 
 module _ (k : Book) (g : Good k) (morning : listOf k ≡ []) (cs : List Call) (day : rolls k cs ≡ false)
-    (us : List Trade) (p : Perm us (survivors (listOf (made k cs)))) (ds : List Call) (i : Interleaved (others k cs) us ds) where
+    (us : List Trade) (q : Perm us (lastForms (logOf k cs))) (ds : List Call) (i : Interleaved (others k cs) us ds) where
   abbrev end : Book
   end = made k cs
 
   end-good : Good end
   end-good = made-good k cs g
+
+  -- by the list
+  p : Perm us (survivors (listOf end))
+  p = subst (Perm us) (sym (survivors-log k cs g morning)) q
 
   enterable : Enterable k us
   unfolding bare withList

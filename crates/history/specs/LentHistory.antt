@@ -12,8 +12,8 @@ use Rattle.rules.specs.Calls.{Call, roll, figure, answer, answerBytes, afterByt
 use Rattle.rules.specs.CallFile.{left}
 use Rattle.rules.specs.declared.Book.{Book}
 use Rattle.laws.specs.Cases.{by-test}
-use Rattle.history.specs.Histories.{accepted, made, SameRoll}
-use Rattle.history.specs.Lent.{madeBytes, AllFit}
+use Rattle.history.specs.Histories.{accepted, made, logOf, SameRoll}
+use Rattle.history.specs.Lent.{madeBytes, logBytes, AllFit}
 use Rattle.history.specs.Steps.{Good, left-yes, left-good}
 use Rattle.history.specs.SoundFits.{left-fits}
 
@@ -44,6 +44,14 @@ pub made-fits : (k : Book) (cs : List Call) → Good k → book .Ok k → AllFit
 unfolding made AllFit
 made-fits k [] g ok f = ok
 made-fits k (c ∷ cs) g ok f = made-fits (left k c) cs (left-good k g c) (left-fits k g ok c (f .0)) (f .1)
+
+-- their log, too
+pub log-bytes : (k : Book) (cs : List Call) → Good k → book .Ok k → AllFit cs → logBytes (bytesOf k) cs ≡ logOf k cs
+unfolding logBytes logOf AllFit
+log-bytes k [] g ok f = refl
+log-bytes k (c ∷ cs) g ok f =
+    rw (answer-bytes k ok c, after-bytes k ok c)
+    (ap (λ (rest : List Call). cond (accepted k c) (c ∷ rest) rest) (log-bytes (left k c) cs (left-good k g c) (left-fits k g ok c (f .0)) (f .1)))
 
 -- ── a roll on two books that it leaves the same ──
 

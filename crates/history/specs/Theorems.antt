@@ -1,46 +1,51 @@
 -- The theorems of the whole, for every history of calls from an empty book: the statements to quote. Their words are in Histories; their proofs in the other files.
-use mathlib.Core.Path.{_≡_, refl, sym, ap, ap₂, subst, _∙_}
+use mathlib.Core.Path.{_≡_, refl, sym, ap, subst, _∙_}
 use mathlib.Core.Bool.{true, false, cond}
 use mathlib.Core.Option.{some, none}
 use mathlib.Core.List.{List, [], _∷_, _++_, Perm, Perm·refl}
 use Prim.Native.Nat.{ℕ, _+_, _<_, _≤_}
 use native.Mathlib.Nat.{zero-add}
-use lib.ListN.{length, getD}
+use lib.ListN.{length}
 use lib.IntN.{pos, _+ℤ_}
 use Rattle.fields.specs.Field.{Bytes}
 use Rattle.rules.specs.Words.{all}
 use Rattle.rules.specs.Bounds.{securities, currencies}
-use Rattle.rules.specs.Book.{listOf, withList, holdingAt, emptyBook}
+use Rattle.rules.specs.Book.{accountOf, listOf, withList, emptyBook}
 use Rattle.rules.specs.Sound.{isCode, sound, totalHeld, distinct}
-use Rattle.rules.specs.Run.{Meeting, meetings, taken}
+use Rattle.rules.specs.Run.{Meeting, meetings}
 use Rattle.rules.specs.Layout.{book, bookLength, bookOf, bytesOf}
 use Rattle.rules.specs.LayoutLaws.{bytes-book, book-bytes, book-fits, bytes-long}
 use Rattle.rules.specs.Calls.{Call, roll, figure, answer, answerBytes, afterBytes, figureBytes, createAnswer, createBytes}
+use Rattle.rules.specs.declared.Position.{Position}
 use Rattle.rules.specs.declared.Trade.{Trade}
 use Rattle.rules.specs.declared.Book.{Book}
 use Rattle.rules.specs.CallFile.{contentsOf, fileOf}
 use Rattle.laws.specs.Shaped.{Shaped, fits-shaped}
 use Rattle.laws.specs.Accepted.{may-create}
 use Rattle.laws.specs.Fitting.{stored-empty, created-fits}
-use Rattle.laws.specs.Backed.{unmet, meeting-backed}
-use Rattle.history.specs.Histories.{accepted, made, logOf, rolls, others, survivors, tidy, Interleaved, lastForm, find, past, today, morning, EndsRolled, SameRoll}
-use Rattle.history.specs.Amounts.{openShares, moneyOpen, everCharged, deposited, withdrawn}
+use Rattle.laws.specs.Backed.{meeting-backed}
+use Rattle.laws.specs.OwnSides.{giver-account}
+use Rattle.history.specs.Histories.{accepted, made, logOf, rolls, others, lastForms, tidy, Interleaved, lastForm, find, survivors, past, today, morning, EndsRolled, SameRoll}
+use Rattle.history.specs.Amounts.{openShares, moneyOpen, everCharged, deposited, withdrawn, heldThen}
 use Rattle.history.specs.Steps.{Good, made-good, empty-good}
-use Rattle.history.specs.Rest.{apart}
 use Rattle.history.specs.Refusals.{never-1, never-13}
-use Rattle.history.specs.Survivors.{numbersOf, survivors-distinct}
-use Rattle.history.specs.Days.{tidy-book, tidy-log, tidy-others, tidy-survivors, tidy-roll, survivors-once, any-roll}
+use Rattle.history.specs.Survivors.{numbersOf}
+use Rattle.history.specs.Days.{us-once, tidy-book, tidy-log, tidy-others, tidy-forms, tidy-roll, any-roll}
 use Rattle.history.specs.Interleaving.{interleaved-log, interleaved-roll}
 use Rattle.history.specs.Forms.{forms-empty}
+use Rattle.history.specs.Surviving.{survivors-log}
+use Rattle.history.specs.AnyForms.{same-order}
 use Rattle.history.specs.ManyDays.{past-today, past-none, past-ends, today-rolls, day-made, morning-list}
 use Rattle.history.specs.ZeroShares.{shares-zero}
 use Rattle.history.specs.ZeroMoney.{money-kept, nothing-yet}
 use Rattle.history.specs.Held.{held-kept, nothing-held}
-use Rattle.history.specs.Lent.{madeBytes, AllFit}
+use Rattle.history.specs.Lent.{madeBytes, logBytes, AllFit}
+use Rattle.history.specs.Publics.{Public, leaves, leftBy, begins, deed, done, createsAny, callsOf, PublicFits, AllPublicFit}
 use Rattle.history.specs.AllBytes.{bytes-of}
-use Rattle.history.specs.LentHistory.{answer-bytes, figure-bytes, made-bytes, made-fits, roll-bytes}
-use Rattle.history.specs.TidyFits.{fit-both, fit-days, fit-tidied}
+use Rattle.history.specs.LentHistory.{answer-bytes, figure-bytes, made-bytes, made-fits, log-bytes, roll-bytes}
+use Rattle.history.specs.TidyFits.{fit-both, fit-days, fit-tidied, fit-any-way}
 use Rattle.history.specs.FileHistory.{file-well, file-made}
+use Rattle.history.specs.PublicHistory.{one-deed, calls-left, calls-fit, begun}
 use Rattle.history.specs.Logs.{made-append, rolled-made}
 
 -- ── one day, from any sound book with an empty list: calls among which no roll is accepted (refused rolls may stand among them) ──
@@ -51,7 +56,7 @@ module _ (k : Book) (is-sound : sound k ≡ true) (shaped : Shaped k) (no-trades
 
   module _ (cs : List Call) (day : rolls k cs ≡ false) where
     -- The roll behind the day has the answer of the roll behind the tidy day, and leaves the same book: the accepted deposits, withdrawals and runs in
-    -- their order, and then the trades that survived, each entered once.
+    -- their order, and then the trades that survived, each entered once, in its last accepted form. Both are read off the log of accepted calls.
     pub day-history : SameRoll (made k cs) (made k (tidy k cs))
     day-history = tidy-roll k good no-trades cs day
 
@@ -60,35 +65,43 @@ module _ (k : Book) (is-sound : sound k ≡ true) (shaped : Shaped k) (no-trades
     tidy-accepted = tidy-log k good no-trades cs day
 
     -- It ends at the day's book with only the survivors in its list.
-    pub tidy-ends : made k (tidy k cs) ≡ withList (made k cs) (survivors (listOf (made k cs)))
+    pub tidy-ends : made k (tidy k cs) ≡ withList (made k cs) (lastForms (logOf k cs))
     tidy-ends = tidy-book k good no-trades cs day
 
     -- It has the same accepted deposits, withdrawals and runs in the same order, and the same survivors.
-    pub tidy-same : (others k (tidy k cs) ≡ others k cs) × (survivors (listOf (made k (tidy k cs))) ≡ survivors (listOf (made k cs)))
-    tidy-same = (tidy-others k good no-trades cs day, tidy-survivors k good no-trades cs day)
+    pub tidy-same : (others k (tidy k cs) ≡ others k cs) × (lastForms (logOf k (tidy k cs)) ≡ lastForms (logOf k cs))
+    tidy-same = (tidy-others k good no-trades cs day, tidy-forms k good no-trades cs day)
 
-    -- A number survives exactly in the form of its last accepted entry or amendment, with no accepted exclusion behind it, read off the log.
-    pub last-forms : (n : ℕ) → find n (survivors (listOf (made k cs))) ≡ lastForm n none (logOf k cs)
-    last-forms n = forms-empty n k cs good no-trades
+    -- The book's own list has the same survivors, in the same order, and excluded trades beside them.
+    pub list-survivors : survivors (listOf (made k cs)) ≡ lastForms (logOf k cs)
+    list-survivors = survivors-log k cs good no-trades
+
+    -- A number survives exactly in the form of its last accepted entry or amendment, with no accepted exclusion behind it.
+    pub last-forms : (n : ℕ) → find n (lastForms (logOf k cs)) ≡ lastForm n none (logOf k cs)
+    last-forms n = ap (find n) (sym list-survivors) ∙ forms-empty n k cs good no-trades
 
     -- Each survivor's number stands once.
-    pub once : distinct (numbersOf (survivors (listOf (made k cs)))) ≡ true
-    once = survivors-once k good no-trades cs day
+    pub once : distinct (numbersOf (lastForms (logOf k cs))) ≡ true
+    once = us-once k good no-trades cs day
+
+    -- Any list that holds the last accepted form of each number, once, is the survivors in some order (a permutation of a list is mathlib's `Perm`).
+    pub once-each : (us : List Trade) → distinct (numbersOf us) ≡ true → ((n : ℕ) → find n us ≡ lastForm n none (logOf k cs)) → Perm us (lastForms (logOf k cs))
+    once-each us d f = same-order us (lastForms (logOf k cs)) d once (λ n. f n ∙ sym (last-forms n))
 
     -- Any other day with the same accepted deposits, withdrawals and runs in the same order and the same survivors, entered in any order and however they
-    -- lie between the other calls (a permutation of a list is mathlib's `Perm`);
-    pub history-any-order : (ds : List Call) → rolls k ds ≡ false → others k ds ≡ others k cs → Perm (survivors (listOf (made k ds))) (survivors (listOf (made k cs)))
+    -- lie between the other calls;
+    pub history-any-order : (ds : List Call) → rolls k ds ≡ false → others k ds ≡ others k cs → Perm (lastForms (logOf k ds)) (lastForms (logOf k cs))
         → SameRoll (made k ds) (made k cs)
-    history-any-order ds d e p = any-roll k good ds cs d day e p
+    history-any-order ds d e p = any-roll k good no-trades ds cs d day e p
 
     -- so also with the survivors in the same order among themselves.
-    pub history-any : (ds : List Call) → rolls k ds ≡ false → others k ds ≡ others k cs → survivors (listOf (made k ds)) ≡ survivors (listOf (made k cs))
+    pub history-any : (ds : List Call) → rolls k ds ≡ false → others k ds ≡ others k cs → lastForms (logOf k ds) ≡ lastForms (logOf k cs)
         → SameRoll (made k ds) (made k cs)
-    history-any ds d e f = history-any-order ds d e (subst (Perm (survivors (listOf (made k ds)))) f (Perm·refl (survivors (listOf (made k ds)))))
+    history-any ds d e f = history-any-order ds d e (subst (Perm (lastForms (logOf k ds))) f (Perm·refl (lastForms (logOf k ds))))
 
     -- Such a day there is for every order of the survivors and every way to lay their entries between the other calls: each call is accepted, and the roll
     -- behind it is the same.
-    pub history-interleaved : (us : List Trade) → Perm us (survivors (listOf (made k cs))) → (ds : List Call) → Interleaved (others k cs) us ds
+    pub history-interleaved : (us : List Trade) → Perm us (lastForms (logOf k cs)) → (ds : List Call) → Interleaved (others k cs) us ds
         → (logOf k ds ≡ ds) × SameRoll (made k cs) (made k ds)
     history-interleaved us p ds i = (interleaved-log k good no-trades cs day us p ds i, interleaved-roll k good no-trades cs day us p ds i)
 
@@ -141,7 +154,7 @@ module _ (codes : List ℕ) (long : length codes ≡ securities) (known : all is
     morning-good = made-good begin (past begin cs) begin-good
 
     -- After each accepted roll the book is the one whose day started the same and was tidy: the same accepted deposits, withdrawals and runs in the same
-    -- order, only the trades that survived, each once, and then that one roll. (A refused roll is refused alike.)
+    -- order, only the trades that survived, each once, in its last accepted form, and then that one roll. (A refused roll is refused alike.)
     pub history : SameRoll (made begin cs) (made (morning begin cs) (tidy (morning begin cs) (today begin cs)))
     history =
         let m = morning begin cs in
@@ -158,30 +171,41 @@ module _ (codes : List ℕ) (long : length codes ≡ securities) (known : all is
 
     -- Every call of the tidy day is accepted, and its deposits, withdrawals and runs and its survivors are those of the day.
     pub history-tidy : let m = morning begin cs in let d = today begin cs in
-        (logOf m (tidy m d) ≡ tidy m d) × (others m (tidy m d) ≡ others m d) × (survivors (listOf (made m (tidy m d))) ≡ survivors (listOf (made begin cs)))
+        (logOf m (tidy m d) ≡ tidy m d) × (others m (tidy m d) ≡ others m d) × (lastForms (logOf m (tidy m d)) ≡ lastForms (logOf m d))
     history-tidy =
         let m = morning begin cs in
         let d = today begin cs in
         let e = morning-list begin cs begin-list in
         let h = today-rolls begin cs in
-        rw (sym (day-made begin cs)) (tidy-log m morning-good e d h, tidy-others m morning-good e d h, tidy-survivors m morning-good e d h)
+        (tidy-log m morning-good e d h, tidy-others m morning-good e d h, tidy-forms m morning-good e d h)
 
     -- The survivors may be entered in any order, and between the day's deposits, withdrawals and runs in any way.
     pub history-any-way : let m = morning begin cs in let d = today begin cs in
-        (us : List Trade) → Perm us (survivors (listOf (made begin cs))) → (ds : List Call) → Interleaved (others m d) us ds
+        (us : List Trade) → Perm us (lastForms (logOf m d)) → (ds : List Call) → Interleaved (others m d) us ds
         → (logOf m ds ≡ ds) × SameRoll (made begin cs) (made m ds)
     history-any-way =
         let m = morning begin cs in
         rw (sym (day-made begin cs))
         (history-interleaved m (morning-good .sound) (morning-good .shaped) (morning-list begin cs begin-list) (today begin cs) (today-rolls begin cs))
 
-    -- Each survivor is in its last accepted form of the day, by the log of the day, and its number stands once.
-    pub history-forms : (n : ℕ) → find n (survivors (listOf (made begin cs))) ≡ lastForm n none (logOf (morning begin cs) (today begin cs))
-    history-forms n =
-        rw (sym (day-made begin cs)) (forms-empty n (morning begin cs) (today begin cs) morning-good (morning-list begin cs begin-list))
+    -- So demand 3 needs no word for the survivors: any list that holds the last accepted form of each number of the day, once, may be entered so.
+    pub history-by-forms : let m = morning begin cs in let d = today begin cs in
+        (us : List Trade) → distinct (numbersOf us) ≡ true → ((n : ℕ) → find n us ≡ lastForm n none (logOf m d)) → (ds : List Call) → Interleaved (others m d) us ds
+        → (logOf m ds ≡ ds) × SameRoll (made begin cs) (made m ds)
+    history-by-forms us e f =
+        history-any-way us
+        (once-each (morning begin cs) (morning-good .sound) (morning-good .shaped) (morning-list begin cs begin-list) (today begin cs) (today-rolls begin cs) us e f)
 
-    pub history-once : distinct (numbersOf (survivors (listOf (made begin cs)))) ≡ true
-    history-once = survivors-distinct (listOf (made begin cs)) (apart (made begin cs) every-good)
+    -- Each survivor is in its last accepted form of the day, its number stands once, and the book's own list has the same survivors.
+    pub history-forms : let log = logOf (morning begin cs) (today begin cs) in (n : ℕ) → find n (lastForms log) ≡ lastForm n none log
+    history-forms =
+        last-forms (morning begin cs) (morning-good .sound) (morning-good .shaped) (morning-list begin cs begin-list) (today begin cs) (today-rolls begin cs)
+
+    pub history-once : distinct (numbersOf (lastForms (logOf (morning begin cs) (today begin cs)))) ≡ true
+    history-once = us-once (morning begin cs) morning-good (morning-list begin cs begin-list) (today begin cs) (today-rolls begin cs)
+
+    pub history-list : survivors (listOf (made begin cs)) ≡ lastForms (logOf (morning begin cs) (today begin cs))
+    history-list = rw (sym (day-made begin cs)) (survivors-log (morning begin cs) (today begin cs) morning-good (morning-list begin cs begin-list))
 
     -- ── zero totals (demand 3) ──
 
@@ -195,10 +219,16 @@ module _ (codes : List ℕ) (long : length codes ≡ securities) (known : all is
 
     -- ── holdings (demand 3) ──
 
-    -- Nobody delivers shares not held at that moment: in a run, each meeting m behind the meetings ms takes at most what the giver's account then holds.
+    -- Nobody delivers shares not held at that moment: in a run, each meeting m behind the meetings ms takes at most what the giver's account then holds;
     pub deliveries-held : (s : ℕ) (ms : List Meeting) (m : Meeting) (rest : List Meeting) → meetings (made begin cs) s ≡ ms ++ (m ∷ rest)
-        → (0 < m .shares) × (m .shares ≤ getD (taken (made begin cs) s (unmet (made begin cs)) ms .holdings) (holdingAt (m .giver .account) s) 0)
+        → (0 < m .shares) × (m .shares ≤ heldThen (made begin cs) s ms (m .giver .account))
+    unfolding heldThen
     deliveries-held s ms m rest e = meeting-backed (made begin cs) s ms m rest e
+
+    -- and the giver's account is that of the record of the giver's number.
+    pub deliverer-account : (s : ℕ) (ms : List Meeting) (m : Meeting) (rest : List Meeting) → meetings (made begin cs) s ≡ ms ++ (m ∷ rest)
+        → (p : Position) → p .number ≡ m .giver .number → accountOf p ≡ m .giver .account
+    deliverer-account = giver-account (made begin cs)
 
     -- What all accounts hold of a security is what was deposited less what was withdrawn.
     pub held-is-deposited : (s : ℕ) → s < securities → totalHeld (made begin cs .holdings) s + withdrawn begin cs s ≡ deposited begin cs s
@@ -247,6 +277,12 @@ module _ (bs codes : List ℕ) (created : createAnswer bs codes ≡ 0) (cs : Lis
   pub bytes-figure : (c : Call) → figureBytes lent c ≡ cond (accepted reached c) (figure reached c) 0
   bytes-figure c = ap (λ (l : List ℕ). figureBytes l c) bytes-are-history ∙ figure-bytes reached every-book-fits c
 
+  -- The log by the answers over the bytes is the history's log: the survivors of a day can be read off the answers.
+  pub bytes-log : logBytes (createBytes bs codes) cs ≡ logOf (emptyBook codes) cs
+  bytes-log =
+      ap (λ (l : List ℕ). logBytes l cs) (stored-empty bs codes created)
+      ∙ log-bytes (emptyBook codes) cs (empty-good codes codes-long codes-known) (created-fits bs codes created) fit
+
   -- an accepted roll is accepted behind the calls ds too, and leaves the same bytes
   abbrev pub RolledBy : List Call → Type 0
   RolledBy ds = answerBytes lent roll ≡ 0
@@ -263,7 +299,7 @@ module _ (bs codes : List ℕ) (created : createAnswer bs codes ≡ 0) (cs : Lis
   tidied = past (emptyBook codes) cs ++ tidy (morning (emptyBook codes) cs) (today (emptyBook codes) cs)
 
   tidied-fit : AllFit tidied
-  tidied-fit = fit-tidied (emptyBook codes) cs (empty-good codes codes-long codes-known) (created-fits bs codes created) fit
+  tidied-fit = fit-tidied (emptyBook codes) cs fit
 
   same-book : SameRoll reached (made (emptyBook codes) tidied)
   unfolding morning
@@ -275,13 +311,13 @@ module _ (bs codes : List ℕ) (created : createAnswer bs codes ≡ 0) (cs : Lis
   bytes-history = same-bytes tidied tidied-fit same-book
 
   -- and of the same past and a day that enters the survivors in any order, between the day's deposits, withdrawals and runs in any way.
-  pub bytes-history-any-way : let k = emptyBook codes in
-      (us : List Trade) → Perm us (survivors (listOf reached)) → (ds : List Call) → AllFit ds → Interleaved (others (morning k cs) (today k cs)) us ds
-      → RolledBy (past k cs ++ ds)
+  pub bytes-history-any-way : let k = emptyBook codes in let m = morning k cs in let d = today k cs in
+      (us : List Trade) → Perm us (lastForms (logOf m d)) → (ds : List Call) → Interleaved (others m d) us ds → RolledBy (past k cs ++ ds)
   unfolding morning
-  bytes-history-any-way us p ds f i =
+  bytes-history-any-way us p ds i =
       let k = emptyBook codes in
-      same-bytes (past k cs ++ ds) (fit-both (past k cs) ds (fit-days k cs fit .0) f)
+      let f = fit-days k cs fit in
+      same-bytes (past k cs ++ ds) (fit-both (past k cs) ds (f .0) (fit-any-way (made k (past k cs)) (today k cs) (f .1) us p ds i))
       (rw (made-append k (past k cs) ds) (history-any-way codes codes-long codes-known cs us p ds i .1))
 
 -- Any bytes that are a sound book: the calls over them are the history of the definitions from it.
@@ -304,12 +340,34 @@ module _ (file codes : List ℕ) (bytes : Bytes file) (created : contentsOf file
   pub file-history : fileOf file .book ≡ some (made (emptyBook codes) (contentsOf file .calls))
   file-history = file-made file codes created
 
--- ── one result ──
+-- ── every public call: the words are in Publics ──
 
--- A promise that is an equation leaves one result: any two values that meet it are equal.
-pub one-result : {A : Type 0} (d x y : A) → x ≡ d → y ≡ d → x ≡ y
-one-result d x y e f = e ∙ sym f
+-- Whatever the bytes, a public call leaves what its deed leaves: what the calls of the seven that it makes leave, one or none; or the new history that it begins.
+pub public-deed : (bs : List ℕ) (p : Public) → leaves bs p ≡ done bs (deed bs p)
+public-deed = one-deed
 
--- So does one of two equations, as each public call over lent bytes has: for the answer, and for every byte of the book.
-pub one-result-both : {A B : Type 0} (d : A) (e : B) (x y : A × B) → (x .0 ≡ d) × (x .1 ≡ e) → (y .0 ≡ d) × (y .1 ≡ e) → x ≡ y
-one-result-both d e x y p q = ap₂ (λ a b. (a, b)) (one-result d (x .0) (y .0) (p .0) (q .0)) (one-result e (x .1) (y .1) (p .1) (q .1))
+-- Any public calls, in any order, no creation accepted among them, leave what the calls of the seven in them leave.
+pub public-history : (bs : List ℕ) (ps : List Public) → createsAny bs ps ≡ false → leftBy bs ps ≡ madeBytes bs (callsOf bs ps)
+public-history = calls-left
+
+-- So from an accepted creation they leave the bytes of the history of those calls, which fit their types, and all of the above holds of them.
+pub public-bytes : (bs codes : List ℕ) → createAnswer bs codes ≡ 0 → let new = createBytes bs codes in
+    (ps : List Public) → AllPublicFit ps → createsAny new ps ≡ false → (leftBy new ps ≡ bytesOf (made (emptyBook codes) (callsOf new ps))) × AllFit (callsOf new ps)
+public-bytes bs codes e ps f quiet =
+    let new = createBytes bs codes in
+    let fit = calls-fit new ps f in
+    (calls-left new ps quiet ∙ bytes-are-history bs codes e (callsOf new ps) fit, fit)
+
+-- Demand 3 of them, in one line: after each accepted roll the bytes are those of the same past, the tidy day and that one roll.
+pub public-rolled : (bs codes : List ℕ) → createAnswer bs codes ≡ 0 → let new = createBytes bs codes in
+    (ps : List Public) → AllPublicFit ps → createsAny new ps ≡ false
+    → let k = emptyBook codes in let cs = callsOf new ps in let ds = past k cs ++ tidy (morning k cs) (today k cs) in
+    answerBytes (leftBy new ps) roll ≡ 0 → (answerBytes (madeBytes new ds) roll ≡ 0) × (afterBytes (leftBy new ps) roll ≡ afterBytes (madeBytes new ds) roll)
+public-rolled bs codes e ps f quiet =
+    let new = createBytes bs codes in
+    rw (calls-left new ps quiet) (bytes-history bs codes e (callsOf new ps) (calls-fit new ps f))
+
+-- And an accepted creation, by whichever call, begins a history from an empty book: that of its codes and of the calls behind it in the same file.
+pub public-begins : (bs : List ℕ) (p : Public) (codes : List ℕ) (cs : List Call) → PublicFits p → deed bs p ≡ begins codes cs
+    → (leaves bs p ≡ bytesOf (made (emptyBook codes) cs)) × (((length codes ≡ securities) × (all isCode codes ≡ true)) × AllFit cs)
+public-begins = begun

@@ -6,7 +6,6 @@ pub mod Untouched
 pub mod TradesApart
 pub mod SameDay
 -- runs
-pub mod Sides
 pub mod RunApart
 -- rolls
 pub mod OffsetApart

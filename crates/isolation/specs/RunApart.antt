@@ -24,9 +24,9 @@ use Rattle.laws.specs.Cases.{by-test, both-hold, neither}
 use Rattle.laws.specs.Keeping.{keep-yes, keep-no, keep-all, keep-whole, keep-swap}
 use Rattle.laws.specs.Taking.{without-account}
 use Rattle.laws.specs.SoundParts.{sound-parts}
+use Rattle.laws.specs.OwnSides.{bothOwn, meetings-own}
 use Rattle.isolation.specs.Untouched.{accepted-sound, left-records}
 use Rattle.isolation.specs.Touching.{isOne, takesPart}
-use Rattle.isolation.specs.Sides.{bothOwn, meetings-own}
 
 -- ── one record ──
 

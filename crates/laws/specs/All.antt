@@ -3,6 +3,7 @@ use mathlib.Core.Path.{_≡_, refl, ap}
 use mathlib.Core.Bool.{Bool, true, _&&_}
 use mathlib.Core.List.{List, [], _∷_, _++_, map}
 use Prim.Native.Nat.{ℕ, zero, suc, _+_, _<_, _≤_, zero-le, suc-le-suc}
+use native.Mathlib.Nat.{le-of-suc-le-suc}
 use native.Mathlib.Omega.{arith}
 use lib.Dec.{ltb}
 use lib.ListN.{length, getD, set}
@@ -95,6 +96,12 @@ unfolding from
 from-length i zero = refl
 from-length i (suc n) = ap suc (from-length (suc i) n)
 
+pub from-at : (i n j : ℕ) → j < n → getD (from i n) j 0 ≡ i + j
+unfolding from
+from-at i zero j h = absurd (omega arith)
+from-at i (suc n) zero h = omega arith
+from-at i (suc n) (suc j) h = omega (arith, from-at (suc i) n j (le-of-suc-le-suc h))
+
 -- they are below any k that is at least i + n
 pub from-below : (i n k : ℕ) → i + n ≤ k → all (λ j. ltb j k) (from i n) ≡ true
 unfolding from all
@@ -112,3 +119,12 @@ securities-below = from-below 0 securities securities (omega arith)
 pub currencies-below : all (λ c. ltb c currencies) everyCurrency ≡ true
 unfolding everyCurrency
 currencies-below = from-below 0 currencies currencies (omega arith)
+
+-- the securities by their place
+pub securities-length : length everySecurity ≡ securities
+unfolding everySecurity
+securities-length = from-length 0 securities
+
+pub security-at : (s : ℕ) → s < securities → getD everySecurity s 0 ≡ s
+unfolding everySecurity
+security-at s h = omega (arith, from-at 0 securities s h)

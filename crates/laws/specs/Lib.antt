@@ -5,6 +5,8 @@ pub mod Walks
 pub mod All
 pub mod Keeping
 pub mod Adding
+pub mod Finding
+pub mod Ways
 -- records and their numbers
 pub mod Order
 pub mod Numbers
@@ -27,9 +29,10 @@ pub mod SidesOf
 pub mod RowMeeting
 pub mod Searching
 pub mod WalkIsRun
--- what a run moves: all that is deliverable, refusal 13 never, nothing that is not held
+-- what a run moves: all that is deliverable, refusal 13 never, nothing that is not held, each side a record's of its own account
 pub mod Deliveries
 pub mod Backed
+pub mod OwnSides
 pub mod SoundRun
 -- an accepted call keeps the book sound: its clauses, what was passed, its lengths, its list, its holdings; so does creation
 pub mod SoundParts
@@ -72,11 +75,13 @@ pub mod RunOthers
 pub mod RunRecords
 pub mod RunSigns
 pub mod RunSound
--- what is stored fits its bytes
+-- what is stored fits its bytes; bytes that are a sound book, and a call on them
 pub mod Fitting
+pub mod SoundBytes
 -- the call file and the sheet
 pub mod Files
 pub mod Decimals
--- answers: the numbers and values of those that are enums; a refused call alters nothing
+-- answers: the numbers and values of those that are enums; 0 or one of the call's own numbers; a refused call alters nothing
 pub mod EnumAnswers
+pub mod OwnNumbers
 pub mod Refused

@@ -15,6 +15,7 @@ use Rattle.rules.specs.Records.{Record, create, call, unreadable, recordAt, oth
 use Rattle.rules.specs.CallFile.{wholeRefused, wholeAnswer, wholeSize, wholeAnswers, wholeBytes}
 use Rattle.rules.specs.Sheet.{sheetRefused, sheetAnswer, sheetSize, sheetBytes, sheetBook, lineAnswer, linePart, lineBytes, lineTally}
 use Rattle.rules.specs.declared.Line.{Line}
+use Rattle.rules.specs.declared.RecordAnswer.the-variants.{Ended}
 use Rattle.rules.specs.declared.Tally.{Tally}
 use Rattle.laws.specs.Cases.{by-test, cond-no}
 use Rattle.laws.specs.EnumAnswers.{run-number}
@@ -66,6 +67,11 @@ module _ (book file : List ℕ) (place : ℕ) where
   stands-zero (create codes) next refused read = refl
   stands-zero (call c) next refused read = ap pos (call-zero book c refused)
   stands-zero unreadable next refused read = absurd (read refl)
+
+  -- At the end nothing is refused (its number is 0), and nothing is altered: there is no record to play.
+  pub ended-keeps : recordAnswer book file place ≡ Ended → recordBytes book file place ≡ book
+  unfolding recordBytes applies
+  ended-keeps e = rw e
 
   module _ (refused : numberOfRecord (recordAnswer book file place) ≢ 0) where
     pub record-keeps : recordBytes book file place ≡ book

@@ -7,7 +7,7 @@ use lib.Dec.{eqb}
 use lib.IntN.{ℤ, pos, negsuc, natAbs, _+ℤ_}
 use borrow.Author.Tests.{eqb-true, eqb-false, eq-eqb, ne-eqb}
 use Rattle.integers.specs.Signs.{isNegative, signed, towardZero-size, towardZero-all, towardZero-sign, towardZero-pair}
-use Rattle.units.specs.PartLaws.{part-sign, part-le, part-all, part-split, part-rest}
+use Rattle.units_rounded.specs.PartLaws.{part-sign, part-le, part-all, part-split, part-rest}
 use Rattle.rules.specs.Book.{quantityOf, moneyOf, isZero, dueOf, accountOf, securityOf}
 use Rattle.rules.specs.Parts.{partMoney, without}
 use Rattle.rules.specs.Roll.{opposite, smaller}

@@ -1,19 +1,19 @@
--- The sides of a run's meetings: each is a record's, so its account is the one that the record's number says.
-use mathlib.Core.Path.{_≡_, refl}
+-- The sides of a run's meetings: each is a record's, so its account is the one of the record of that number.
+use mathlib.Core.Path.{_≡_, refl, sym, ap, subst, _∙_}
 use mathlib.Core.Bool.{Bool, true, _&&_}
-use mathlib.Core.List.{List, [], _∷_, map}
+use mathlib.Core.List.{List, [], _∷_, _++_, map}
 use Prim.Native.Nat.{ℕ, _-_, _/_, _%_, min}
 use lib.Dec.{eqb, ltb}
 use lib.ListN.{getD, set}
-use borrow.Author.Tests.{eq-eqb}
+use borrow.Author.Tests.{eqb-true, eq-eqb}
 use Rattle.rules.specs.Words.{all}
 use Rattle.rules.specs.Book.{quantityOf, accountOf, holdingAt}
 use Rattle.rules.specs.Run.{Side, side, shortOf, longOf, dueIn, giversOf, givers, receivers, Meeting, leaving, filled, meetingsOf, meetings}
 use Rattle.rules.specs.declared.Position.{Position}
 use Rattle.rules.specs.declared.Book.{Book}
 use Rattle.laws.specs.Cases.{by-test, both-hold, and-hold}
-use Rattle.laws.specs.All.{all-by, all-both, map-all-in}
+use Rattle.laws.specs.All.{all-by, all-cons, all-both, map-all-in}
 use Rattle.laws.specs.Keeping.{keep-all}
 
 -- ── a side's account is its number's ──
 
@@ -71,3 +71,15 @@ meetings-of-own (r ∷ rs) gs a h =
 pub meetings-own : (k : Book) (s : ℕ) → all bothOwn (meetings k s) ≡ true
 unfolding meetings givers
 meetings-own k s = meetings-of-own (receivers k s) (givers k s) (receivers-own k s) (givers-own s (dueIn k s) (k .holdings))
+
+all-here : (ms : List Meeting) (m : Meeting) (rest : List Meeting) → all bothOwn (ms ++ m ∷ rest) ≡ true → bothOwn m ≡ true
+all-here [] m rest a = all-cons bothOwn m rest a .0
+all-here (n ∷ ms) m rest a = all-here ms m rest (all-cons bothOwn n (ms ++ m ∷ rest) a .1)
+
+-- So of every meeting: a record of the giver's number is the giver's account's.
+pub giver-account : (k : Book) (s : ℕ) (ms : List Meeting) (m : Meeting) (rest : List Meeting) → meetings k s ≡ ms ++ m ∷ rest
+    → (p : Position) → p .number ≡ m .giver .number → accountOf p ≡ m .giver .account
+unfolding accountOf
+giver-account k s ms m rest e p n =
+    let own = all-here ms m rest (subst (λ (l : List Meeting). all bothOwn l ≡ true) e (meetings-own k s)) in
+    ap (λ (i : ℕ). i / 32 % 64) n ∙ sym (eqb-true (m .giver .account) (m .giver .number / 32 % 64) (both-hold (isOwn (m .giver)) (isOwn (m .receiver)) own .0))

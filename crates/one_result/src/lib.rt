@@ -1,0 +1,1 @@
+// The promise of each public call leaves one result. Theorems, no code.
