@@ -2,8 +2,8 @@
  * the same book and the same sheet; and each other function once, accepted and refused. Prints the sheet of the example;
  * a difference is said on standard error, and the exit status is 1.
  *
- *     rt staticlib abi
- *     gcc -O2 -Iinclude tests/embed.c target/staticlib/libabi.a -o target/embed && target/embed
+ *     rt staticlib wickdamson
+ *     gcc -O2 -Iinclude tests/embed.c target/staticlib/libwickdamson.a -o target/embed && target/embed
  */
 #include "wickdamson.h"
 
@@ -67,6 +67,7 @@ static void by_calls(void)
     uint64_t moved = 7;
     memset(codes, 255, sizeof codes);
     codes[0] = 0;
+    same("version", wick_version(), WICK_VERSION);
     same("book bytes", (long long)wick_book_bytes(), WICK_BOOK_BYTES);
     same("create", wick_create(book, sizeof book, codes, sizeof codes), WICK_OK);
     same("enter 1", wick_enter(book, sizeof book, 1, 1, 2, 0, 1000, 10500), WICK_OK);
@@ -77,6 +78,8 @@ static void by_calls(void)
     same("roll", wick_roll(book, sizeof book), WICK_OK);
     same("run", wick_run(book, sizeof book, 0, &moved), WICK_OK);
     same("shares moved", (long long)moved, 650);
+    same("a sound book", wick_sound(book, sizeof book), 1);
+    same("a short book", wick_sound(book, sizeof book - 1), 0);
 }
 
 /* The example as a file: whole, record by record, and as a sheet. The three leave the same book. */
@@ -144,6 +147,9 @@ static void by_lines(void)
     same("X", wick_line_place(text, 6, 100, &lines, &bytes, &size), WICK_OK);
     same("the X line", memcmp(text, "X 100\n", size), 0);
     same("tally of lines", lines, 9);
+    same("C of account 258", wick_line_charge(text, sizeof text, 258, 0, 1, &lines, &bytes, &size), WICK_WRONG_LENGTH);
+    same("tally of lines", lines, 9);
+    same("the X line stands", memcmp(text, "X 100\n", 6), 0);
     lines = 1000000;
     same("a line past a million", wick_line_day(text, sizeof text, 3, &lines, &bytes, &size), WICK_WRONG_LENGTH);
     same("tally of lines", lines, 1000000);
@@ -168,6 +174,7 @@ static void asked(void)
     same("due", due, 210000);
     same("sum in the base", sums[0], -210000);
     same("other sums", sums[1] != 0 || sums[2] != 0 || sums[3] != 0, 0);
+    same("price of 256", wick_price(intraday, 128, closing, 128, 256, &price), WICK_NO_SECURITY);
     same("no price", wick_price(intraday, 128, closing, 128, 1, &price), WICK_NO_PRICE);
     same("the price of a refusal", price, 0);
     same("haircuts of the wrong length",
@@ -188,6 +195,12 @@ static void refused(void)
     same("enter of one account", wick_enter(other, sizeof other, 1, 2, 2, 0, 1000, 10500), WICK_SAME_ACCOUNT);
     same("amend of nothing", wick_amend(other, sizeof other, 9, 1, 2, 0, 1000, 10500), WICK_NO_TRADE);
     same("exclude of nothing", wick_exclude(other, sizeof other, 9), WICK_NO_TRADE);
+    same("deposit to 258", wick_deposit(other, sizeof other, 258, 0, 1), WICK_NO_ACCOUNT);
+    same("withdraw by 258", wick_withdraw(other, sizeof other, 258, 0, 1), WICK_NO_ACCOUNT);
+    same("deposit of 256", wick_deposit(other, sizeof other, 2, 256, 1), WICK_NO_SECURITY);
+    same("run of 256", wick_run(other, sizeof other, 256, &moved), WICK_NO_SECURITY);
+    same("enter of 65,539", wick_enter(other, sizeof other, 65539, 1, 2, 0, 1000, 10500), WICK_BAD_NUMBER);
+    same("enter by 257 and 258", wick_enter(other, sizeof other, 1, 257, 258, 0, 1000, 10500), WICK_NO_ACCOUNT);
     same("withdraw too much", wick_withdraw(other, sizeof other, 1, 0, 651), WICK_NOT_HELD);
     same("deposit of 0", wick_deposit(other, sizeof other, 1, 0, 0), WICK_BAD_QUANTITY);
     same("run of 1", wick_run(other, sizeof other, 1, &moved), WICK_NO_SECURITY);
@@ -203,8 +216,10 @@ static void refused(void)
     same("withdraw", wick_withdraw(other, sizeof other, 1, 0, 650), WICK_OK);
     same("enter", wick_enter(other, sizeof other, 9, 1, 2, 0, 1000, 10500), WICK_OK);
     same("amend", wick_amend(other, sizeof other, 9, 2, 1, 0, 7, 8), WICK_OK);
+    same("amend of 65,545", wick_amend(other, sizeof other, 65545, 2, 1, 0, 7, 8), WICK_NO_TRADE);
+    same("exclude of 65,545", wick_exclude(other, sizeof other, 65545), WICK_NO_TRADE);
     same("exclude", wick_exclude(other, sizeof other, 9), WICK_OK);
-    same("the number stays used", wick_enter(other, sizeof other, 9, 1, 2, 0, 1000, 10500), WICK_NUMBER_USED);
+    same("the number stays used", wick_enter(other, sizeof other, 9, 1, 2, 0, 1000, 10500), WICK_BAD_NUMBER);
 }
 
 int main(void)

@@ -270,11 +270,11 @@ fn damage_trade(random: &mut Random, book: &mut [u8]) {
 /// Calls that fit a made-up book: its listed securities, and a number of its list.
 pub fn style(random: &mut Random, book: &[u8]) -> Style {
     let codes = &book[CODES..POSITION_COUNT];
-    let listed = (0..32).filter(|&security| codes[usize::from(security)] != UNLISTED);
+    let listed = (0..32).filter(|&security| codes[security as usize] != UNLISTED);
     let count = usize::from(u16::from_be_bytes([book[TRADE_COUNT], book[TRADE_COUNT + 1]]));
     let row = TRADES + random.index(count.max(1)) * TRADE;
     let number = u16::from_be_bytes([book[row], book[row + 1]]);
-    Style::new(random).over(listed.collect(), number)
+    Style::new(random).over(listed.collect(), number.into())
 }
 
 /// A book in which the marks of account 0 are so many mils in currency 1 that their converted total is the limit, or a

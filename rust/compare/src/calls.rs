@@ -9,8 +9,8 @@ use reference::units::Price;
 /// What the calls of one history are like.
 #[derive(Clone, Debug)]
 pub struct Style {
-    accounts: Vec<u8>,
-    securities: Vec<u8>,
+    accounts: Vec<u32>,
+    securities: Vec<u32>,
     /// Bits of a trade's quantity, 1 to 20.
     quantity_bits: u64,
     price_bits: u64,
@@ -19,7 +19,7 @@ pub struct Style {
     /// Trades for each roll, about.
     trades: u64,
     /// Trade numbers used so far, guessed: those below have been.
-    last_number: u16,
+    last_number: u32,
 }
 
 impl Style {
@@ -28,8 +28,8 @@ impl Style {
         let securities = random.pick(&[1, 2, 3, 32]);
         let first = random.below(64);
         Style {
-            accounts: (0..accounts).map(|a| ((first + a * 7) % 64) as u8).collect(),
-            securities: (0..securities).map(|s| ((first + s * 5) % 32) as u8).collect(),
+            accounts: (0..accounts).map(|a| ((first + a * 7) % 64) as u32).collect(),
+            securities: (0..securities).map(|s| ((first + s * 5) % 32) as u32).collect(),
             quantity_bits: random.within(2, 20),
             price_bits: random.within(1, 24),
             fault: random.pick(&[20, 60, 200, 100_000]),
@@ -52,7 +52,7 @@ impl Style {
     }
 
     /// The same over the securities and a trade number of some book.
-    pub fn over(mut self, securities: Vec<u8>, number: u16) -> Style {
+    pub fn over(mut self, securities: Vec<u32>, number: u32) -> Style {
         if !securities.is_empty() {
             self.securities = securities;
         }
@@ -64,7 +64,7 @@ impl Style {
     pub fn codes(&self, random: &mut Random) -> [u8; 32] {
         let mut codes = [255; 32];
         for &security in &self.securities {
-            codes[usize::from(security)] = random.below(4) as u8;
+            codes[security as usize] = random.below(4) as u8;
         }
         if random.once_in(4) {
             codes.fill_with(|| random.pick(&[0, 1, 2, 3, 255]));
@@ -76,17 +76,17 @@ impl Style {
         random.once_in(self.fault)
     }
 
-    pub fn account(&self, random: &mut Random) -> u8 {
+    pub fn account(&self, random: &mut Random) -> u32 {
         if self.faulty(random) {
-            random.pick(&[63, 64, 65, 128, 255])
+            random.pick(&[63, 64, 65, 128, 255, 256, 258, 319, 65_536, u32::MAX])
         } else {
             random.pick(&self.accounts)
         }
     }
 
-    pub fn security(&self, random: &mut Random) -> u8 {
+    pub fn security(&self, random: &mut Random) -> u32 {
         if self.faulty(random) {
-            random.pick(&[0, 1, 30, 31, 32, 33, 64, 255])
+            random.pick(&[0, 1, 30, 31, 32, 33, 64, 255, 256, 257, 65_536, u32::MAX])
         } else {
             random.pick(&self.securities)
         }
@@ -121,15 +121,16 @@ impl Style {
     }
 
     /// A number that is likely in today's list.
-    fn used_number(&self, random: &mut Random) -> u16 {
-        let back = random.below(self.trades + 1) as u16;
-        self.last_number.saturating_sub(back)
+    fn used_number(&self, random: &mut Random) -> u32 {
+        let back = random.below(self.trades + 1) as u32;
+        let wide = if self.faulty(random) { 65_536 } else { 0 };
+        self.last_number.saturating_sub(back) + wide
     }
 
-    fn fresh_number(&mut self, random: &mut Random) -> u16 {
+    fn fresh_number(&mut self, random: &mut Random) -> u32 {
         if self.faulty(random) || random.once_in(40) {
             let used = self.used_number(random);
-            return random.pick(&[0, 1, self.last_number, used, u16::MAX]);
+            return random.pick(&[0, 1, self.last_number, used, 65_535, 65_536, 65_537, 65_539, u32::MAX]);
         }
         self.last_number =
             if random.once_in(50) { random.byte().into() } else { self.last_number % 65_535 + 1 };

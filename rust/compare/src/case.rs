@@ -1,5 +1,6 @@
 //! One case: what a call is given; and its outcome, everything that the call gives back or may alter.
 
+use crate::wrapped;
 use reference::book::Trade;
 use reference::calls;
 use reference::file::Answer;
@@ -11,15 +12,16 @@ use wickdamson::ffi;
 #[derive(Clone, Debug)]
 pub enum Ask {
     Create(Vec<u8>),
-    Enter(u16, Trade),
-    Amend(u16, Trade),
-    Exclude(u16),
-    Deposit(u8, u8, u64),
-    Withdraw(u8, u8, u64),
+    Sound,
+    Enter(u32, Trade),
+    Amend(u32, Trade),
+    Exclude(u32),
+    Deposit(u32, u32, u64),
+    Withdraw(u32, u32, u64),
     Roll,
-    Run(u8),
-    Price { intraday: Vec<u8>, closing: Vec<u8>, security: u8 },
-    Marks { account: u8, intraday: Vec<u8>, closing: Vec<u8>, rates: Vec<u32>, haircuts: Vec<u32> },
+    Run(u32),
+    Price { intraday: Vec<u8>, closing: Vec<u8>, security: u32 },
+    Marks { account: u32, intraday: Vec<u8>, closing: Vec<u8>, rates: Vec<u32>, haircuts: Vec<u32> },
     Record { file: Vec<u8>, place: u32 },
     Play { file: Vec<u8>, answers: Vec<u8> },
     Sheet { file: Vec<u8>, buffer: Vec<u8> },
@@ -46,6 +48,7 @@ impl Ask {
     pub fn name(&self) -> &'static str {
         match self {
             Ask::Create(_) => "create",
+            Ask::Sound => "sound",
             Ask::Enter(..) => "enter",
             Ask::Amend(..) => "amend",
             Ask::Exclude(_) => "exclude",
@@ -81,6 +84,13 @@ impl Case {
         Outcome { number, figures, book, buffer }
     }
 
+    /// What the safe crate gives.
+    pub fn by_wrapper(&self) -> Outcome {
+        let (mut book, mut buffer) = (self.book.clone(), self.ask.buffer());
+        let (number, figures) = wrapped::ask(&self.ask, &mut book, &mut buffer);
+        Outcome { number, figures, book, buffer }
+    }
+
     /// What the archive gives.
     pub fn by_archive(&self) -> Outcome {
         let (mut book, mut buffer) = (self.book.clone(), self.ask.buffer());
@@ -88,10 +98,18 @@ impl Case {
         Outcome { number, figures, book, buffer }
     }
 
-    /// Both outcomes, if they differ.
+    /// The outcome, if all three are the same; else the archive's, or the safe crate's, and the reference's.
+    pub fn outcome(&self) -> Result<Outcome, (Outcome, Outcome)> {
+        let reference = self.by_reference();
+        match [self.by_archive(), self.by_wrapper()].into_iter().find(|outcome| *outcome != reference) {
+            Some(other) => Err((other, reference)),
+            None => Ok(reference),
+        }
+    }
+
+    /// Two outcomes that differ, if some do.
     pub fn difference(&self) -> Option<(Outcome, Outcome)> {
-        let (archive, reference) = (self.by_archive(), self.by_reference());
-        (archive != reference).then_some((archive, reference))
+        self.outcome().err()
     }
 }
 
@@ -112,6 +130,7 @@ fn sized(answer: Result<usize, Refusal>) -> (u8, Vec<i128>) {
 fn ask_reference(ask: &Ask, book: &mut [u8], buffer: &mut [u8]) -> (u8, Vec<i128>) {
     match ask {
         Ask::Create(codes) => plain(calls::create(book, codes)),
+        Ask::Sound => (0, vec![reference::Book::decode(book).is_ok().into()]),
         Ask::Enter(number, trade) => plain(calls::enter(book, *number, *trade)),
         Ask::Amend(number, trade) => plain(calls::amend(book, *number, *trade)),
         Ask::Exclude(number) => plain(calls::exclude(book, *number)),
@@ -160,6 +179,7 @@ fn ask_archive(ask: &Ask, book: &mut [u8], buffer: &mut [u8]) -> (u8, Vec<i128>)
     unsafe {
         match ask {
             Ask::Create(codes) => (ffi::wick_create(at, room, codes.as_ptr(), codes.len()), vec![]),
+            Ask::Sound => (0, vec![ffi::wick_sound(at, room).into()]),
             Ask::Enter(number, t) => {
                 let number =
                     ffi::wick_enter(at, room, *number, t.buyer, t.seller, t.security, t.quantity, t.price.0);
@@ -240,6 +260,16 @@ fn ask_archive(ask: &Ask, book: &mut [u8], buffer: &mut [u8]) -> (u8, Vec<i128>)
             }
         }
     }
+}
+
+/// A line through the archive, with a tally of the safe crate; the answer and the size.
+pub fn raw_line(buffer: &mut [u8], line: &Line, tally: &mut wickdamson::Tally) -> (u8, usize) {
+    let mut moved = Tally { lines: tally.lines, bytes: tally.bytes };
+    let mut size = UNWRITTEN as usize;
+    // SAFETY: nothing is asked of the caller.
+    let number = unsafe { archive_line(buffer, line, &mut moved, &mut size) };
+    *tally = wickdamson::Tally { lines: moved.lines, bytes: moved.bytes };
+    (number, size)
 }
 
 /// # Safety

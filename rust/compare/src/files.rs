@@ -13,13 +13,22 @@ pub fn record(kind: u8, fields: &[&[u8]]) -> Vec<u8> {
     record
 }
 
-fn trade_record(kind: u8, number: u16, trade: &Trade) -> Vec<u8> {
+/// An account or security, or a trade number, as a record has it; a wider one as one that there is not.
+fn byte(number: u32) -> u8 {
+    u8::try_from(number).unwrap_or(255)
+}
+
+fn trade_number(number: u32) -> [u8; 2] {
+    u16::try_from(number).unwrap_or(0).to_be_bytes()
+}
+
+fn trade_record(kind: u8, number: u32, trade: &Trade) -> Vec<u8> {
     let Trade { buyer, seller, security, quantity, price } = trade;
     record(
         kind,
         &[
-            &number.to_be_bytes(),
-            &[*buyer, *seller, *security],
+            &trade_number(number),
+            &[byte(*buyer), byte(*seller), byte(*security)],
             &quantity.to_be_bytes(),
             &price.0.to_be_bytes(),
         ],
@@ -32,15 +41,15 @@ pub fn record_of(ask: &Ask) -> Option<Vec<u8>> {
         Ask::Create(codes) => record(0, &[codes]),
         Ask::Enter(number, trade) => trade_record(1, *number, trade),
         Ask::Amend(number, trade) => trade_record(2, *number, trade),
-        Ask::Exclude(number) => record(3, &[&number.to_be_bytes()]),
+        Ask::Exclude(number) => record(3, &[&trade_number(*number)]),
         Ask::Roll => record(4, &[]),
         Ask::Deposit(account, security, quantity) => {
-            record(5, &[&[*account, *security], &quantity.to_be_bytes()])
+            record(5, &[&[byte(*account), byte(*security)], &quantity.to_be_bytes()])
         }
         Ask::Withdraw(account, security, quantity) => {
-            record(6, &[&[*account, *security], &quantity.to_be_bytes()])
+            record(6, &[&[byte(*account), byte(*security)], &quantity.to_be_bytes()])
         }
-        Ask::Run(security) => record(7, &[&[*security]]),
+        Ask::Run(security) => record(7, &[&[byte(*security)]]),
         _ => return None,
     })
 }
@@ -98,13 +107,13 @@ pub fn brim(random: &mut Random) -> Vec<u8> {
         for n in 0..random.within(250, 256) {
             let place = n + day * 300 + shift;
             let trade = Trade {
-                buyer: (place % 64) as u8,
-                seller: ((place + 1 + place / 64) % 64) as u8,
-                security: (place / 16 % 32) as u8,
+                buyer: (place % 64) as u32,
+                seller: ((place + 1 + place / 64) % 64) as u32,
+                security: (place / 16 % 32) as u32,
                 quantity: random.within(1, 1_000_000) as u32,
                 price: reference::units::Price(random.within(1, 9_999_999) as u32),
             };
-            file.extend(trade_record(1, n as u16 + 1, &trade));
+            file.extend(trade_record(1, n as u32 + 1, &trade));
         }
         file.extend(record(4, &[]));
     }

@@ -1,4 +1,5 @@
-//! Random and damaged inputs for the calls of the book, and the two outcomes of each: the archive's and the reference's.
+//! Random and damaged inputs for the calls of the book, and the outcomes of each: the
+//! archive's, raw and through the safe crate, and the reference's.
 
 pub mod books;
 pub mod calls;
@@ -9,3 +10,4 @@ pub mod random;
 pub mod show;
 pub mod shrink;
 pub mod tables;
+pub mod wrapped;

@@ -1,4 +1,5 @@
-//! Compares the archive of the proved book with the reference: answers, figures and every byte.
+//! Compares the archive of the proved book, by its raw exports and through the safe crate's own types, with the reference:
+//! answers, figures and every byte.
 //!
 //!     compare [ROUNDS [SEED]]
 //!
@@ -55,18 +56,20 @@ impl Comparison {
     /// Compares one case; what both gave is handed back.
     fn compare(&mut self, kind: &'static str, book: &[u8], ask: Ask) -> Outcome {
         let case = Case { book: book.to_vec(), ask };
-        let (archive, reference) = (case.by_archive(), case.by_reference());
-        if archive != reference {
-            self.counts.print();
-            println!("DIFFERENCE in {kind}; the smallest case found:");
-            let smallest = shrink::shrink(case);
-            let (archive, reference) = smallest.difference().unwrap_or((archive, reference));
-            println!("{}", show::difference(&smallest, &archive, &reference));
-            exit(1);
-        }
-        self.counts.add(kind, case.ask.name(), archive.number);
-        self.counts.add_effect(&case, &archive);
-        archive
+        let same = match case.outcome() {
+            Ok(same) => same,
+            Err((archive, reference)) => {
+                self.counts.print();
+                println!("DIFFERENCE in {kind}; the smallest case found:");
+                let smallest = shrink::shrink(case);
+                let (archive, reference) = smallest.difference().unwrap_or((archive, reference));
+                println!("{}", show::difference(&smallest, &archive, &reference));
+                exit(1);
+            }
+        };
+        self.counts.add(kind, case.ask.name(), same.number);
+        self.counts.add_effect(&case, &same);
+        same
     }
 
     /// Cases that every run has.
@@ -124,7 +127,8 @@ impl Comparison {
             damaged[place] ^= self.random.byte().max(1);
             let ask = match self.random.below(8) {
                 0 => style.call(&mut self.random),
-                _ => Ask::Withdraw(0, 0, 1),
+                1 | 2 => Ask::Withdraw(0, 0, 1),
+                _ => Ask::Sound,
             };
             self.compare("book, each byte", &damaged, ask);
             damaged[place] = book[place];
@@ -179,7 +183,7 @@ impl Comparison {
     fn made_up_book(&mut self) {
         let book = books::sound(&mut self.random);
         let mut style = books::style(&mut self.random, &book);
-        for security in [0, self.random.below(32) as u8] {
+        for security in [0, self.random.below(32) as u32] {
             self.compare("made-up book", &book, Ask::Run(security));
         }
         self.compare("made-up book", &book, Ask::Roll);

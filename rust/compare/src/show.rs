@@ -8,7 +8,7 @@ fn hex(bytes: &[u8]) -> String {
     bytes.iter().map(|byte| format!("{byte:02x}")).collect::<Vec<_>>().join(" ")
 }
 
-/// The case, and where the archive's outcome and the reference's part.
+/// The case, and where the archive's outcome (raw, or through the safe crate) and the reference's part.
 pub fn difference(case: &Case, archive: &Outcome, reference: &Outcome) -> String {
     let mut text = format!("call: {}\n{}", case.ask.name(), arguments(&case.ask));
     text += &book(&case.book);

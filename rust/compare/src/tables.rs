@@ -40,8 +40,8 @@ fn tables(random: &mut Random) -> (Vec<u8>, Vec<u8>) {
 
 pub fn price(random: &mut Random) -> Ask {
     let (intraday, closing) = tables(random);
-    let any = random.below(32) as u8;
-    let security = random.pick(&[0, 31, 32, 255, any, any, any, any]);
+    let any = random.below(32) as u32;
+    let security = random.pick(&[0, 31, 32, 255, 256, 287, any, any, any, any]);
     Ask::Price { intraday, closing, security }
 }
 
@@ -64,7 +64,7 @@ fn numbers(random: &mut Random, most: u32, base: u32, edges: &[u32], fault: bool
     numbers
 }
 
-pub fn marks(random: &mut Random, account: u8) -> Ask {
+pub fn marks(random: &mut Random, account: u32) -> Ask {
     let (intraday, closing) = tables(random);
     let (rate_fault, haircut_fault) = (random.once_in(12), random.once_in(12));
     let rates = numbers(random, 100_000_000, 1_000_000, &[1, 999_999, 1_080_000, 7_800_000], rate_fault);
@@ -90,19 +90,28 @@ fn whole(random: &mut Random) -> i64 {
     }
 }
 
+/// A field of one byte, now and then a wider number.
+fn narrow(random: &mut Random) -> u32 {
+    match random.below(40) {
+        0 => random.pick(&[255, 256, 258, 65_536, u32::MAX]),
+        n if n < 20 => random.below(20) as u32,
+        _ => random.byte().into(),
+    }
+}
+
 pub fn line(random: &mut Random) -> Ask {
     let line = match random.below(6) {
-        0 => Line::Refusal { index: count(random), refusal: random.byte() },
+        0 => Line::Refusal { index: count(random), refusal: narrow(random) },
         1 => Line::Place(count(random)),
-        2 => Line::Day(random.word() as u16),
+        2 => Line::Day(random.word() as u32 % 65_540),
         3 => Line::Open {
             number: count(random),
-            account: random.byte(),
-            security: random.byte(),
+            account: narrow(random),
+            security: narrow(random),
             quantity: Shares(whole(random)),
             money: Mils(whole(random)),
         },
-        4 => Line::Charge { account: random.byte(), currency: random.byte(), charge: Mils(whole(random)) },
+        4 => Line::Charge { account: narrow(random), currency: narrow(random), charge: Mils(whole(random)) },
         _ => Line::End(count(random)),
     };
     let width = line.text().as_bytes().len();

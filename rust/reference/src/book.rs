@@ -32,7 +32,7 @@ pub struct Position {
 /// One number of today's list: "an excluded one keeps its number and order, other fields zero".
 #[derive(Clone, Copy, Debug, PartialEq, Eq)]
 pub struct Entry {
-    pub number: u16,
+    pub number: u32,
     /// `None` for an excluded one.
     pub trade: Option<Trade>,
 }
@@ -40,9 +40,9 @@ pub struct Entry {
 /// The fields of a trade, all but its number.
 #[derive(Clone, Copy, Debug, PartialEq, Eq)]
 pub struct Trade {
-    pub buyer: u8,
-    pub seller: u8,
-    pub security: u8,
+    pub buyer: u32,
+    pub seller: u32,
+    pub security: u32,
     pub quantity: u32,
     pub price: Price,
 }
@@ -109,10 +109,10 @@ impl Book {
     }
 
     /// "security above 31 or unlisted" is refused by 3.
-    pub(crate) fn listed(&self, security: u8) -> Result<usize, Refusal> {
-        match self.codes.get(usize::from(security)) {
+    pub(crate) fn listed(&self, security: u32) -> Result<usize, Refusal> {
+        match self.codes.get(security as usize) {
             None | Some(&UNLISTED) => Err(Refusal::Security),
-            Some(_) => Ok(usize::from(security)),
+            Some(_) => Ok(security as usize),
         }
     }
 
@@ -130,9 +130,9 @@ impl Book {
 }
 
 /// "account above 63" is refused by 2.
-pub(crate) fn account(account: u8) -> Result<usize, Refusal> {
-    if usize::from(account) < ACCOUNTS {
-        Ok(usize::from(account))
+pub(crate) fn account(account: u32) -> Result<usize, Refusal> {
+    if (account as usize) < ACCOUNTS {
+        Ok(account as usize)
     } else {
         Err(Refusal::Account)
     }

@@ -37,19 +37,19 @@ pub fn create(book: &mut [u8], codes: &[u8]) -> Result<(), Refusal> {
     Ok(())
 }
 
-pub fn enter(book: &mut [u8], number: u16, trade: Trade) -> Result<(), Refusal> {
+pub fn enter(book: &mut [u8], number: u32, trade: Trade) -> Result<(), Refusal> {
     on_book(book, |book| book.enter(number, trade), Book::encode_entry)
 }
 
-pub fn amend(book: &mut [u8], number: u16, trade: Trade) -> Result<(), Refusal> {
+pub fn amend(book: &mut [u8], number: u32, trade: Trade) -> Result<(), Refusal> {
     on_book(book, |book| book.amend(number, trade), Book::encode_entry)
 }
 
-pub fn exclude(book: &mut [u8], number: u16) -> Result<(), Refusal> {
+pub fn exclude(book: &mut [u8], number: u32) -> Result<(), Refusal> {
     on_book(book, |book| book.exclude(number), Book::encode_entry)
 }
 
-pub fn deposit(book: &mut [u8], account: u8, security: u8, quantity: u64) -> Result<(), Refusal> {
+pub fn deposit(book: &mut [u8], account: u32, security: u32, quantity: u64) -> Result<(), Refusal> {
     on_book(
         book,
         |book| book.deposit(account, security, quantity),
@@ -57,7 +57,7 @@ pub fn deposit(book: &mut [u8], account: u8, security: u8, quantity: u64) -> Res
     )
 }
 
-pub fn withdraw(book: &mut [u8], account: u8, security: u8, quantity: u64) -> Result<(), Refusal> {
+pub fn withdraw(book: &mut [u8], account: u32, security: u32, quantity: u64) -> Result<(), Refusal> {
     on_book(
         book,
         |book| book.withdraw(account, security, quantity),
@@ -70,7 +70,7 @@ pub fn roll(book: &mut [u8]) -> Result<(), Refusal> {
 }
 
 /// The shares moved.
-pub fn run(book: &mut [u8], security: u8) -> Result<u64, Refusal> {
+pub fn run(book: &mut [u8], security: u32) -> Result<u64, Refusal> {
     on_book(
         book,
         |book| book.run(security),
@@ -85,7 +85,7 @@ pub fn run(book: &mut [u8], security: u8) -> Result<u64, Refusal> {
 
 pub fn marks(
     book: &[u8],
-    account: u8,
+    account: u32,
     intraday: &[u8],
     closing: &[u8],
     rates: &[u32],

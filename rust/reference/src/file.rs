@@ -16,13 +16,13 @@ pub const FIRST: usize = 1;
 #[derive(Clone, Copy, Debug, PartialEq, Eq)]
 pub enum Call {
     Create([u8; SECURITIES]),
-    Enter(u16, Trade),
-    Amend(u16, Trade),
-    Exclude(u16),
+    Enter(u32, Trade),
+    Amend(u32, Trade),
+    Exclude(u32),
     Roll,
-    Deposit { account: u8, security: u8, quantity: u64 },
-    Withdraw { account: u8, security: u8, quantity: u64 },
-    Run(u8),
+    Deposit { account: u32, security: u32, quantity: u64 },
+    Withdraw { account: u32, security: u32, quantity: u64 },
+    Run(u32),
 }
 
 /// What stands at a place of a file.
@@ -79,27 +79,28 @@ fn call(body: &[u8]) -> Option<Call> {
             let (number, trade) = trade(fields)?;
             Call::Amend(number, trade)
         }
-        (3, &[n0, n1]) => Call::Exclude(u16::from_be_bytes([n0, n1])),
+        (3, &[n0, n1]) => Call::Exclude(u16::from_be_bytes([n0, n1]).into()),
         (4, []) => Call::Roll,
         (5, &[account, security, ref quantity @ ..]) => {
-            Call::Deposit { account, security, quantity: u64_of(quantity)? }
+            Call::Deposit { account: account.into(), security: security.into(), quantity: u64_of(quantity)? }
         }
         (6, &[account, security, ref quantity @ ..]) => {
-            Call::Withdraw { account, security, quantity: u64_of(quantity)? }
+            Call::Withdraw { account: account.into(), security: security.into(), quantity: u64_of(quantity)? }
         }
-        (7, &[security]) => Call::Run(security),
+        (7, &[security]) => Call::Run(security.into()),
         _ => return None,
     })
 }
 
 /// "number 2 bytes, buyer, seller, security 1 each, quantity 4, price 4"
-fn trade(fields: &[u8]) -> Option<(u16, Trade)> {
+fn trade(fields: &[u8]) -> Option<(u32, Trade)> {
     let &[n0, n1, buyer, seller, security, q0, q1, q2, q3, p0, p1, p2, p3] = fields else {
         return None;
     };
     let quantity = u32::from_be_bytes([q0, q1, q2, q3]);
     let price = Price(u32::from_be_bytes([p0, p1, p2, p3]));
-    Some((u16::from_be_bytes([n0, n1]), Trade { buyer, seller, security, quantity, price }))
+    let [buyer, seller, security] = [buyer, seller, security].map(u32::from);
+    Some((u16::from_be_bytes([n0, n1]).into(), Trade { buyer, seller, security, quantity, price }))
 }
 
 fn u64_of(field: &[u8]) -> Option<u64> {

@@ -10,20 +10,32 @@ const MAX_TALLY: u32 = 1_000_000;
 #[derive(Clone, Copy, Debug, PartialEq, Eq)]
 pub enum Line {
     /// `R` record index from 0, refusal
-    Refusal { index: u32, refusal: u8 },
+    Refusal { index: u32, refusal: u32 },
     /// `X` place
     Place(u32),
     /// `DAY` day
-    Day(u16),
+    Day(u32),
     /// `P` number account security quantity money
-    Open { number: u32, account: u8, security: u8, quantity: Shares, money: Mils },
+    Open { number: u32, account: u32, security: u32, quantity: Shares, money: Mils },
     /// `C` account currency charge
-    Charge { account: u8, currency: u8, charge: Mils },
+    Charge { account: u32, currency: u32, charge: Mils },
     /// `E` and the lines above it
     End(u32),
 }
 
 impl Line {
+    /// Whether each field has its width: one byte for account, security, currency and refusal, two for the day. A line whose
+    /// fields are wider is refused as one that does not fit (`include/wickdamson.h`).
+    fn is_narrow(&self) -> bool {
+        match *self {
+            Line::Refusal { refusal, .. } => refusal <= 255,
+            Line::Day(day) => day <= 65_535,
+            Line::Open { account, security, .. } => account <= 255 && security <= 255,
+            Line::Charge { account, currency, .. } => account <= 255 && currency <= 255,
+            Line::Place(_) | Line::End(_) => true,
+        }
+    }
+
     /// The line's text, with its newline.
     pub fn text(&self) -> Text {
         match *self {
@@ -42,16 +54,16 @@ impl Line {
     }
 }
 
-/// The text of one line; the longest, of an open position, has 63 bytes.
+/// The text of one line; the longest, of an open position, has 63 bytes, and 77 if its account and security are 32 bits wide.
 #[derive(Clone, Copy)]
 pub struct Text {
-    bytes: [u8; 64],
+    bytes: [u8; 80],
     length: usize,
 }
 
 impl Text {
     fn new(word: &str) -> Text {
-        Text { bytes: [0; 64], length: 0 }.put(word.as_bytes())
+        Text { bytes: [0; 80], length: 0 }.put(word.as_bytes())
     }
 
     pub fn as_bytes(&self) -> &[u8] {
@@ -115,6 +127,9 @@ impl Tally {
 
 /// "A line is written into a lent buffer and the written part is handed back; bytes beyond it stay."
 pub fn write_line<'a>(buffer: &'a mut [u8], line: &Line, tally: &mut Tally) -> Result<&'a mut [u8], Refusal> {
+    if !line.is_narrow() {
+        return Err(Refusal::Length);
+    }
     let text = line.text();
     let part = buffer.get_mut(..text.length).ok_or(Refusal::Length)?;
     *tally = tally.moved_on(text.length)?;

@@ -65,9 +65,9 @@ fn table(bytes: &[u8]) -> Result<&Table, Refusal> {
 
 /// "Finding it is a public question whose answer is the 4-byte entry itself, as it stands in whichever table it came
 /// from." "Price question: 18, 3 (above 31 only), 5, 17."
-pub fn price<'a>(intraday: &'a [u8], closing: &'a [u8], security: u8) -> Result<&'a [u8; 4], Refusal> {
+pub fn price<'a>(intraday: &'a [u8], closing: &'a [u8], security: u32) -> Result<&'a [u8; 4], Refusal> {
     let prices = Prices::new(intraday, closing)?;
-    let security = usize::from(security);
+    let security = security as usize;
     if security >= SECURITIES {
         return Err(Refusal::Security);
     }
@@ -130,7 +130,7 @@ impl Book {
     /// What an account owes. "Marks: 1, 2, 18, 5, 15, 17, 16"; 1 is looked at where the book is read.
     pub fn marks(
         &self,
-        a: u8,
+        a: u32,
         intraday: &[u8],
         closing: &[u8],
         rates: &[u32],

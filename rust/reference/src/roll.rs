@@ -37,8 +37,8 @@ impl Nets {
         nets
     }
 
-    fn at(&mut self, account: u8, security: u8) -> &mut (Shares, Mils) {
-        let (account, security) = (usize::from(account), usize::from(security));
+    fn at(&mut self, account: u32, security: u32) -> &mut (Shares, Mils) {
+        let (account, security) = (account as usize, security as usize);
         let place = &mut self.place[account * SECURITIES + security];
         if *place == Nets::NONE {
             *place = self.named.len() as u16;
@@ -178,7 +178,7 @@ mod tests {
     use crate::book::Trade;
     use crate::units::Price;
 
-    fn entry(number: u16, buyer: u8, seller: u8, quantity: u32, price: u32) -> Entry {
+    fn entry(number: u32, buyer: u32, seller: u32, quantity: u32, price: u32) -> Entry {
         let trade = Trade { buyer, seller, security: 0, quantity, price: Price(price) };
         Entry { number, trade: Some(trade) }
     }

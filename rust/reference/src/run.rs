@@ -13,7 +13,7 @@ struct Side {
 
 impl Book {
     /// The shares moved, "0 included". Refused by 13 where "deliverable shares exceed the receivers' total".
-    pub fn run(&mut self, security: u8) -> Result<u64, Refusal> {
+    pub fn run(&mut self, security: u32) -> Result<u64, Refusal> {
         let security = self.listed(security)?;
         let (givers, receivers) = self.sides(security);
         let deliverable: u64 = givers.iter().map(|giver| giver.shares).sum();

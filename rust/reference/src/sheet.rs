@@ -21,12 +21,12 @@ impl Sheet {
     /// "`DAY` day; `P` number account security quantity money, by number; `C` account currency charge, by account then
     /// currency, zero charges omitted".
     fn book(&mut self, book: &Book) {
-        self.line(&Line::Day(book.day()));
+        self.line(&Line::Day(book.day().into()));
         for position in book.positions() {
             self.line(&Line::Open {
                 number: position.number,
-                account: position.account() as u8,
-                security: position.security() as u8,
+                account: position.account() as u32,
+                security: position.security() as u32,
                 quantity: position.shares,
                 money: position.money,
             });
@@ -53,7 +53,7 @@ impl Sheet {
 pub fn sheet(file: &[u8]) -> (Vec<u8>, Option<Book>) {
     let mut sheet = Sheet::default();
     if file.len() > MAX_FILE {
-        sheet.line(&Line::Refusal { index: 0, refusal: Refusal::Length.number() });
+        sheet.line(&Line::Refusal { index: 0, refusal: Refusal::Length.number().into() });
         return (sheet.end(), None);
     }
     let mut index = 0;
@@ -62,7 +62,7 @@ pub fn sheet(file: &[u8]) -> (Vec<u8>, Option<Book>) {
         match answer.number {
             0 => {}
             UNREADABLE => sheet.line(&Line::Place(answer.figure as u32)),
-            refusal => sheet.line(&Line::Refusal { index, refusal }),
+            refusal => sheet.line(&Line::Refusal { index, refusal: refusal.into() }),
         }
         index += 1;
     });

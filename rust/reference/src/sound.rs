@@ -72,11 +72,11 @@ impl Book {
     }
 
     /// What a run of one security alters.
-    pub(crate) fn encode_run(&self, bytes: &mut [u8; BOOK], security: u8) {
+    pub(crate) fn encode_run(&self, bytes: &mut [u8; BOOK], security: u32) {
         self.encode_positions(bytes);
         self.encode_charges(bytes);
         for account in 0..ACCOUNTS {
-            self.encode_holding(bytes, account, usize::from(security));
+            self.encode_holding(bytes, account, security as usize);
         }
     }
 
@@ -106,11 +106,11 @@ impl Book {
 
 fn trade_row(entry: &Entry) -> [u8; TRADE] {
     let mut row = [0; TRADE];
-    row[..2].copy_from_slice(&entry.number.to_be_bytes());
+    row[..2].copy_from_slice(&(entry.number as u16).to_be_bytes());
     if let Some(trade) = &entry.trade {
-        row[2] = trade.buyer;
-        row[3] = trade.seller;
-        row[4] = trade.security;
+        row[2] = trade.buyer as u8;
+        row[3] = trade.seller as u8;
+        row[4] = trade.security as u8;
         row[5..9].copy_from_slice(&trade.quantity.to_be_bytes());
         row[9..].copy_from_slice(&trade.price.0.to_be_bytes());
     }
@@ -258,8 +258,8 @@ fn read_trades(bytes: &[u8; BOOK], codes: &Codes) -> Option<Vec<Entry>> {
     let mut trades = Vec::with_capacity(MAX_TRADES);
     for row in used {
         let entry = read_entry(row);
-        let (word, bit) = (usize::from(entry.number / 64), 1 << (entry.number % 64));
-        let listed = |security: u8| codes.get(usize::from(security)).is_some_and(|&c| c != UNLISTED);
+        let (word, bit) = ((entry.number / 64) as usize, 1 << (entry.number % 64));
+        let listed = |security: u32| codes.get(security as usize).is_some_and(|&c| c != UNLISTED);
         let valid = |trade: &Trade| listed(trade.security) && valid_fields(trade);
         if met[word] & bit != 0 || !entry.trade.as_ref().is_none_or(valid) {
             return None;
@@ -274,11 +274,11 @@ fn read_entry(row: &[u8; TRADE]) -> Entry {
     let [n0, n1, buyer, seller, security, q0, q1, q2, q3, p0, p1, p2, p3] = *row;
     let excluded = is_zero(&row[2..]);
     Entry {
-        number: u16::from_be_bytes([n0, n1]),
+        number: u16::from_be_bytes([n0, n1]).into(),
         trade: (!excluded).then_some(Trade {
-            buyer,
-            seller,
-            security,
+            buyer: buyer.into(),
+            seller: seller.into(),
+            security: security.into(),
             quantity: u32::from_be_bytes([q0, q1, q2, q3]),
             price: Price(u32::from_be_bytes([p0, p1, p2, p3])),
         }),

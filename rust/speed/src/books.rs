@@ -17,12 +17,12 @@ fn created() -> Made {
 }
 
 /// Trade `n` of a list in which no account and security comes twice (there are 1,024 such trades).
-fn apart(n: usize) -> (u8, u8, u8) {
+fn apart(n: usize) -> (u32, u32, u32) {
     let (account, security) = (n % 32 * 2, n / 32);
-    (account as u8, account as u8 + 1, security as u8)
+    (account as u32, account as u32 + 1, security as u32)
 }
 
-fn trade(sides: (u8, u8, u8), n: usize) -> Trade {
+fn trade(sides: (u32, u32, u32), n: usize) -> Trade {
     let (buyer, seller, security) = sides;
     let quantity = 1_000 + n as u32 * 37 % 1_000;
     Trade { buyer, seller, security, quantity, price: Price(10_000 + n as u32 * 101 % 5_000) }
@@ -64,7 +64,7 @@ pub fn facing() -> Made {
     let turned = |(buyer, seller, security)| (seller, buyer, security);
     enter(&mut book, (0..255).map(|n| trade(turned(apart(n)), n * 3 + 1)))?;
     calls::roll(&mut book)?;
-    enter(&mut book, (0..256).map(|n| trade((4, 9, (n % 2) as u8), n)))?;
+    enter(&mut book, (0..256).map(|n| trade((4, 9, (n % 2) as u32), n)))?;
     Ok(book)
 }
 
@@ -81,7 +81,7 @@ pub fn spread() -> Made {
 pub fn one_security() -> Made {
     let mut book = created()?;
     for day in 0..16 {
-        enter(&mut book, (0..32).map(|n| trade((n as u8 * 2, (n as u8 * 2 + 7) % 64, 0), n + day * 32)))?;
+        enter(&mut book, (0..32).map(|n| trade((n as u32 * 2, (n as u32 * 2 + 7) % 64, 0), n + day * 32)))?;
         calls::roll(&mut book)?;
     }
     calls::roll(&mut book)?;

@@ -17,7 +17,7 @@ use reference::refusal::{number, Refusal};
 use reference::units::Price;
 use std::process::exit;
 use table::{Room, Table};
-use wickdamson::{bytes, Account, Quantity, Security};
+use wickdamson::{bytes, Account, Number, Quantity, Security};
 
 /// The number of an answer of the archive, 0 for an accepted call.
 fn answered<T>(answer: Result<T, wickdamson::Refusal>) -> u8 {
@@ -71,14 +71,14 @@ fn direct_calls(table: &mut Table) -> Result<(), Refusal> {
         buyer: Account(3),
         seller: Account(8),
         security: Security(5),
-        quantity: 1_000,
+        quantity: Quantity(1_000),
         price: wickdamson::Price(10_500),
     };
     table.row(
         "enter, full book (1,024 positions, the 256th trade)",
         (4_000, 1),
         full.clone(),
-        |room| answered(bytes::enter(&mut room.book, 256, &same)),
+        |room| answered(bytes::enter(&mut room.book, Number(256), &same)),
         |room| number(&calls::enter(&mut room.book, 256, trade)),
     );
     table.row(

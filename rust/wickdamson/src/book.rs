@@ -2,8 +2,11 @@
 
 use crate::bytes::{self, Answer, Marks, Record, Trade};
 use crate::refusal::Refusal;
-use crate::units::{Account, Mils, Price, Quantity, Security, Shares};
+use crate::units::{
+    Account, Closing, Haircut, Intraday, Mils, Number, Place, Price, Quantity, Rate, Security, Shares,
+};
 use crate::{ANSWERS_BYTES, BOOK_BYTES, SHEET_BYTES};
+use std::fmt;
 
 /// A currency of the house.
 #[derive(Clone, Copy, Debug, PartialEq, Eq, Hash)]
@@ -30,18 +33,18 @@ impl Position {
     }
 
     pub fn account(&self) -> Account {
-        Account((self.number / 32 % 64) as u8)
+        Account(self.number / 32 % 64)
     }
 
     pub fn security(&self) -> Security {
-        Security((self.number % 32) as u8)
+        Security(self.number % 32)
     }
 }
 
 /// The book of one clearing house: 42,278 bytes, laid out as `docs/BOOK.md` says.
 ///
-/// Bytes of any origin can be made a `Book`; every call on it tests before anything else whether they are sound, and is
-/// refused by [`Refusal::NotSound`] if not. (A record of a file: 18 and 19 come first, then its own call, which tests.)
+/// A `Book` is sound: it is created, played, or made of bytes that were tested, and every call leaves it sound. (The calls
+/// test it all the same, before anything else.)
 #[derive(Clone, PartialEq, Eq)]
 pub struct Book {
     bytes: Box<[u8]>,
@@ -50,20 +53,26 @@ pub struct Book {
 impl Book {
     /// An empty book, with the currency of each security, or `None` for one that is not listed.
     pub fn create(currencies: &[Option<Currency>; 32]) -> Result<Book, Refusal> {
-        let mut book = Book::default();
+        let mut bytes = room();
         let codes = currencies.map(|currency| currency.map_or(255, |currency| currency as u8));
-        bytes::create(&mut book.bytes, &codes)?;
-        Ok(book)
+        bytes::create(&mut bytes, &codes)?;
+        Ok(Book { bytes })
     }
 
-    /// The book that the bytes are; another length than [`BOOK_BYTES`] is refused.
+    /// The book that the bytes are. Bytes that are no sound book are refused by [`Refusal::NotSound`], another length than
+    /// [`BOOK_BYTES`] among them. (A sound book may still be a damaged one: keep a hash of what you keep.)
     pub fn from_bytes(bytes: impl Into<Box<[u8]>>) -> Result<Book, Refusal> {
         let bytes = bytes.into();
-        if bytes.len() == BOOK_BYTES {
+        if bytes::is_sound(&bytes) {
             Ok(Book { bytes })
         } else {
             Err(Refusal::NotSound)
         }
+    }
+
+    /// Whether the book is sound, tested anew.
+    pub fn is_sound(&self) -> bool {
+        bytes::is_sound(&self.bytes)
     }
 
     pub fn as_bytes(&self) -> &[u8] {
@@ -75,17 +84,17 @@ impl Book {
     }
 
     /// Enters a trade at the end of today's list.
-    pub fn enter(&mut self, number: u16, trade: &Trade) -> Result<(), Refusal> {
+    pub fn enter(&mut self, number: Number, trade: &Trade) -> Result<(), Refusal> {
         bytes::enter(&mut self.bytes, number, trade)
     }
 
     /// Replaces every field of today's trade of that number; it keeps its place.
-    pub fn amend(&mut self, number: u16, trade: &Trade) -> Result<(), Refusal> {
+    pub fn amend(&mut self, number: Number, trade: &Trade) -> Result<(), Refusal> {
         bytes::amend(&mut self.bytes, number, trade)
     }
 
     /// Excludes today's trade of that number; the number stays used today.
-    pub fn exclude(&mut self, number: u16) -> Result<(), Refusal> {
+    pub fn exclude(&mut self, number: Number) -> Result<(), Refusal> {
         bytes::exclude(&mut self.bytes, number)
     }
 
@@ -119,22 +128,22 @@ impl Book {
         bytes::run(&mut self.bytes, security)
     }
 
-    /// The marks of an account: prices of each security (0 for none), `rates` in millionths of the base, `haircuts` in
-    /// basis points.
+    /// The marks of an account; a rate and a haircut for each currency, used or not.
     pub fn marks(
         &self,
         account: Account,
-        intraday: &[Price; 32],
-        closing: &[Price; 32],
-        rates: &[u32; 4],
-        haircuts: &[u32; 4],
+        intraday: &Intraday,
+        closing: &Closing,
+        rates: &[Rate; 4],
+        haircuts: &[Haircut; 4],
     ) -> Result<Marks, Refusal> {
-        bytes::marks(&self.bytes, account, &price_table(intraday), &price_table(closing), rates, haircuts)
+        let (rates, haircuts) = (rates.map(|rate| rate.0), haircuts.map(|haircut| haircut.0));
+        bytes::marks(&self.bytes, account, &intraday.table(), &closing.table(), &rates, &haircuts)
     }
 
-    /// The record that begins at a place of a call file, as a call of its own. Begin with place 1; its create makes this
-    /// book a new one.
-    pub fn record(&mut self, file: &[u8], place: u32) -> Record {
+    /// The record that begins at a place of a call file, as a call of its own (see [`bytes::record`]). The create at
+    /// [`bytes::FIRST`] makes this book a new one; [`bytes::AFTER_CREATE`] goes on with the book as it is.
+    pub fn record(&mut self, file: &[u8], place: Place) -> Record {
         bytes::record(&mut self.bytes, file, place)
     }
 
@@ -155,14 +164,14 @@ impl Book {
 
     /// What an account holds of a security; `None` for one that there is not.
     pub fn holding(&self, account: Account, security: Security) -> Option<Quantity> {
-        let (account, security) = (usize::from(account.0), usize::from(security.0));
+        let (account, security) = (account.0 as usize, security.0 as usize);
         (account < 64 && security < 32)
             .then(|| Quantity(u64::from_be_bytes(self.field(20_516 + (account * 32 + security) * 8))))
     }
 
     /// What an account is charged today in a currency; `None` for an account that there is not.
     pub fn charge(&self, account: Account, currency: Currency) -> Option<Mils> {
-        let account = usize::from(account.0);
+        let account = account.0 as usize;
         (account < 64)
             .then(|| Mils(i64::from_be_bytes(self.field(36_900 + (account * 4 + currency as usize) * 8))))
     }
@@ -172,24 +181,28 @@ impl Book {
     }
 }
 
-/// Day 0, every security in the base currency, and nothing else.
-impl Default for Book {
-    fn default() -> Book {
-        Book { bytes: vec![0; BOOK_BYTES].into() }
+impl fmt::Debug for Book {
+    fn fmt(&self, f: &mut fmt::Formatter<'_>) -> fmt::Result {
+        let positions: Vec<Position> = self.positions().collect();
+        f.debug_struct("Book")
+            .field("day", &self.day())
+            .field("positions", &positions)
+            .finish_non_exhaustive()
     }
 }
 
-/// A price table in bytes: 32 entries of 4 bytes, big-endian.
-pub fn price_table(prices: &[Price; 32]) -> [u8; 128] {
-    let mut table = [0; 128];
-    for (entry, price) in table.as_chunks_mut::<4>().0.iter_mut().zip(prices) {
-        *entry = price.0.to_be_bytes();
-    }
-    table
+/// Room for a book that is yet to be made.
+fn room() -> Box<[u8]> {
+    vec![0; BOOK_BYTES].into()
+}
+
+/// The price of a security: the intraday entry, or, if that is 0, the closing one.
+pub fn price(intraday: &Intraday, closing: &Closing, security: Security) -> Result<Price, Refusal> {
+    bytes::price(&intraday.table(), &closing.table(), security)
 }
 
 /// What a whole call file leaves.
-#[derive(Clone)]
+#[derive(Clone, Debug, PartialEq, Eq)]
 pub struct Played {
     /// There if the file's create was read.
     pub book: Option<Book>,
@@ -199,17 +212,17 @@ pub struct Played {
 
 /// Plays a whole call file.
 pub fn play(file: &[u8]) -> Result<Played, Refusal> {
-    let (mut book, mut answers) = (Book::default(), vec![0; ANSWERS_BYTES]);
-    let size = bytes::play(&mut book.bytes, file, &mut answers)?;
+    let (mut bytes, mut answers) = (room(), vec![0; ANSWERS_BYTES]);
+    let size = bytes::play(&mut bytes, file, &mut answers)?;
     let answers: Vec<Answer> = bytes::answers(&answers[..size]).collect();
-    let created = answers.first().is_some_and(|answer| answer.result.is_ok());
-    Ok(Played { book: created.then_some(book), answers })
+    let created = matches!(answers.first(), Some(Answer::Accepted(_)));
+    Ok(Played { book: created.then_some(Book { bytes }), answers })
 }
 
 /// The sheet of a whole call file, as text.
 pub fn sheet(file: &[u8]) -> Result<Vec<u8>, Refusal> {
-    let (mut book, mut text) = (Book::default(), vec![0; SHEET_BYTES]);
-    let size = bytes::sheet(&mut book.bytes, file, &mut text)?;
+    let (mut book, mut text) = (room(), vec![0; SHEET_BYTES]);
+    let size = bytes::sheet(&mut book, file, &mut text)?;
     text.truncate(size);
     Ok(text)
 }

@@ -7,7 +7,7 @@
 
 use crate::ffi;
 use crate::refusal::Refusal;
-use crate::units::{Account, Mils, Price, Quantity, Security};
+use crate::units::{Account, Gain, Mils, Number, Place, Price, Quantity, Security};
 
 /// The fields of a trade, all but its number.
 #[derive(Clone, Copy, Debug, PartialEq, Eq, Hash)]
@@ -16,9 +16,20 @@ pub struct Trade {
     pub seller: Account,
     pub security: Security,
     /// 1 to 1,000,000 shares.
-    pub quantity: u32,
+    pub quantity: Quantity,
     /// 1 to 9,999,999 mils for one share.
     pub price: Price,
+}
+
+/// A traded quantity as the archive takes it. What is wider than 32 bits is above 1,000,000 all the same, and is refused.
+fn traded(quantity: Quantity) -> u32 {
+    u32::try_from(quantity.0).unwrap_or(u32::MAX)
+}
+
+/// Whether the bytes are a sound book. A sound book may still be a damaged one.
+pub fn is_sound(book: &[u8]) -> bool {
+    // SAFETY: see the head of this module; the book is only read.
+    unsafe { ffi::wick_sound(book.as_ptr(), book.len()) == 1 }
 }
 
 /// Makes an empty book: `codes` are the 32 currency codes, 0 to 3, or 255 for unlisted.
@@ -28,43 +39,43 @@ pub fn create(book: &mut [u8], codes: &[u8]) -> Result<(), Refusal> {
 }
 
 /// Enters a trade at the end of today's list.
-pub fn enter(book: &mut [u8], number: u16, trade: &Trade) -> Result<(), Refusal> {
+pub fn enter(book: &mut [u8], number: Number, trade: &Trade) -> Result<(), Refusal> {
     // SAFETY: see the head of this module.
     Refusal::check(unsafe {
         ffi::wick_enter(
             book.as_mut_ptr(),
             book.len(),
-            number,
+            number.0,
             trade.buyer.0,
             trade.seller.0,
             trade.security.0,
-            trade.quantity,
+            traded(trade.quantity),
             trade.price.0,
         )
     })
 }
 
 /// Replaces every field of today's trade of that number; it keeps its place.
-pub fn amend(book: &mut [u8], number: u16, trade: &Trade) -> Result<(), Refusal> {
+pub fn amend(book: &mut [u8], number: Number, trade: &Trade) -> Result<(), Refusal> {
     // SAFETY: see the head of this module.
     Refusal::check(unsafe {
         ffi::wick_amend(
             book.as_mut_ptr(),
             book.len(),
-            number,
+            number.0,
             trade.buyer.0,
             trade.seller.0,
             trade.security.0,
-            trade.quantity,
+            traded(trade.quantity),
             trade.price.0,
         )
     })
 }
 
 /// Excludes today's trade of that number; the number stays used today.
-pub fn exclude(book: &mut [u8], number: u16) -> Result<(), Refusal> {
+pub fn exclude(book: &mut [u8], number: Number) -> Result<(), Refusal> {
     // SAFETY: see the head of this module.
-    Refusal::check(unsafe { ffi::wick_exclude(book.as_mut_ptr(), book.len(), number) })
+    Refusal::check(unsafe { ffi::wick_exclude(book.as_mut_ptr(), book.len(), number.0) })
 }
 
 /// Adds shares to what an account holds.
@@ -124,16 +135,17 @@ pub fn price(intraday: &[u8], closing: &[u8], security: Security) -> Result<Pric
     Refusal::check(number).map(|()| Price(price))
 }
 
-/// What an account owes at some prices.
+/// What an account would lose at some prices.
 #[derive(Clone, Copy, Debug, Default, PartialEq, Eq)]
 pub struct Marks {
-    /// In the base currency.
+    /// The net loss in the base currency; 0 if the net is a gain.
     pub due: Mils,
-    /// The sum of marks in each currency; below zero unfavourable.
-    pub sums: [Mils; 4],
+    /// The sum of marks in each currency, not converted.
+    pub sums: [Gain; 4],
 }
 
-/// The marks of an account: `rates` in millionths of the base, `haircuts` in basis points, four of each.
+/// The marks of an account: price tables of 128 bytes, `rates` in millionths of a base unit, `haircuts` in basis points, four
+/// of each, one for each currency.
 pub fn marks(
     book: &[u8],
     account: Account,
@@ -164,27 +176,47 @@ pub fn marks(
             &mut sum3,
         )
     };
-    Refusal::check(number).map(|()| Marks { due: Mils(due), sums: [sum0, sum1, sum2, sum3].map(Mils) })
+    Refusal::check(number).map(|()| Marks { due: Mils(due), sums: [sum0, sum1, sum2, sum3].map(Gain) })
 }
 
 /// The answer of one record of a call file.
 #[derive(Clone, Copy, Debug, PartialEq, Eq)]
-pub struct Answer {
-    pub result: Result<(), Refusal>,
-    /// The shares that a run moved, or the byte place of an unreadable record; else 0.
-    pub figure: u64,
+pub enum Answer {
+    /// Its call was accepted; the shares that it moved if it was a run, else 0.
+    Accepted(Quantity),
+    /// Its call was refused and altered nothing.
+    Refused(Refusal),
+    /// It cannot be read (19): where it begins. Nothing behind it is read.
+    Unreadable(Place),
 }
 
-/// The answer of a record, and where to go on.
+impl Answer {
+    fn of(number: u8, figure: u64) -> Answer {
+        match Refusal::check(number) {
+            Ok(()) => Answer::Accepted(Quantity(figure)),
+            // a place is below 65,535
+            Err(Refusal::Unreadable) => Answer::Unreadable(Place(figure as u32)),
+            Err(refusal) => Answer::Refused(refusal),
+        }
+    }
+}
+
+/// What stands at a place of a call file, played.
 #[derive(Clone, Copy, Debug, PartialEq, Eq)]
-pub struct Record {
-    pub answer: Answer,
-    /// The place behind the record; `None` where nothing is to follow.
-    pub next: Option<u32>,
+pub enum Record {
+    /// A record, and the place behind it, where the next begins.
+    Played(Answer, Place),
+    /// The file's end: there is no record.
+    End,
+    /// A 19, at its place. Nothing behind it is to be read.
+    Unreadable(Place),
+    /// 18: the file is too long, or the book has another length. Nothing was read.
+    Refused,
 }
 
-/// The record that begins at a place of a call file, as a call of its own. Begin with place 1.
-pub fn record(book: &mut [u8], file: &[u8], place: u32) -> Record {
+/// The record that begins at a place of a call file, as a call of its own. Begin with [`FIRST`], and go on with the place that
+/// each answer gives: **any place is played as it stands**, and one inside a record may read as another record.
+pub fn record(book: &mut [u8], file: &[u8], place: Place) -> Record {
     let (mut figure, mut next) = (0, 0);
     // SAFETY: see the head of this module; each figure is a variable of its own.
     let number = unsafe {
@@ -193,16 +225,23 @@ pub fn record(book: &mut [u8], file: &[u8], place: u32) -> Record {
             book.len(),
             file.as_ptr(),
             file.len(),
-            place,
+            place.0,
             &mut figure,
             &mut next,
         )
     };
-    Record {
-        answer: Answer { result: Refusal::check(number), figure },
-        next: Some(next).filter(|&next| next != 0),
+    match (Answer::of(number, figure), next) {
+        (Answer::Unreadable(place), _) => Record::Unreadable(place),
+        (Answer::Accepted(_), 0) => Record::End,
+        (Answer::Refused(_), 0) => Record::Refused,
+        (answer, next) => Record::Played(answer, Place(next)),
     }
 }
+
+/// Where the first record of a file begins, its create.
+pub const FIRST: Place = Place(1);
+/// Where the record behind the create begins: from here a file is played on a book that there is.
+pub const AFTER_CREATE: Place = Place(36);
 
 /// A whole call file; how many bytes its answers take, 9 for each record. [`answers`] reads them.
 pub fn play(book: &mut [u8], file: &[u8], answers: &mut [u8]) -> Result<usize, Refusal> {
@@ -224,10 +263,11 @@ pub fn play(book: &mut [u8], file: &[u8], answers: &mut [u8]) -> Result<usize, R
 
 /// The answers that [`play`] wrote.
 pub fn answers(bytes: &[u8]) -> impl Iterator<Item = Answer> + '_ {
-    bytes.as_chunks::<9>().0.iter().map(|&[number, ref figure @ ..]| Answer {
-        result: Refusal::check(number),
-        figure: u64::from_be_bytes(*figure),
-    })
+    bytes
+        .as_chunks::<9>()
+        .0
+        .iter()
+        .map(|&[number, ref figure @ ..]| Answer::of(number, u64::from_be_bytes(*figure)))
 }
 
 /// The sheet of a whole call file, as text; how long it is.

@@ -1,47 +1,49 @@
 //! The functions of the archive, as `include/wickdamson.h` declares them.
 
 extern "C" {
+    pub fn wick_version() -> u32;
     pub fn wick_book_bytes() -> usize;
+    pub fn wick_sound(book: *const u8, book_len: usize) -> u8;
 
     pub fn wick_create(book: *mut u8, book_len: usize, codes: *const u8, codes_len: usize) -> u8;
     pub fn wick_enter(
         book: *mut u8,
         book_len: usize,
-        number: u16,
-        buyer: u8,
-        seller: u8,
-        security: u8,
+        number: u32,
+        buyer: u32,
+        seller: u32,
+        security: u32,
         quantity: u32,
         price: u32,
     ) -> u8;
     pub fn wick_amend(
         book: *mut u8,
         book_len: usize,
-        number: u16,
-        buyer: u8,
-        seller: u8,
-        security: u8,
+        number: u32,
+        buyer: u32,
+        seller: u32,
+        security: u32,
         quantity: u32,
         price: u32,
     ) -> u8;
-    pub fn wick_exclude(book: *mut u8, book_len: usize, number: u16) -> u8;
-    pub fn wick_deposit(book: *mut u8, book_len: usize, account: u8, security: u8, quantity: u64) -> u8;
-    pub fn wick_withdraw(book: *mut u8, book_len: usize, account: u8, security: u8, quantity: u64) -> u8;
+    pub fn wick_exclude(book: *mut u8, book_len: usize, number: u32) -> u8;
+    pub fn wick_deposit(book: *mut u8, book_len: usize, account: u32, security: u32, quantity: u64) -> u8;
+    pub fn wick_withdraw(book: *mut u8, book_len: usize, account: u32, security: u32, quantity: u64) -> u8;
     pub fn wick_roll(book: *mut u8, book_len: usize) -> u8;
-    pub fn wick_run(book: *mut u8, book_len: usize, security: u8, moved: *mut u64) -> u8;
+    pub fn wick_run(book: *mut u8, book_len: usize, security: u32, moved: *mut u64) -> u8;
 
     pub fn wick_price(
         intraday: *const u8,
         intraday_len: usize,
         closing: *const u8,
         closing_len: usize,
-        security: u8,
+        security: u32,
         price: *mut u32,
     ) -> u8;
     pub fn wick_marks(
         book: *const u8,
         book_len: usize,
-        account: u8,
+        account: u32,
         intraday: *const u8,
         intraday_len: usize,
         closing: *const u8,
@@ -89,7 +91,7 @@ extern "C" {
         buffer: *mut u8,
         buffer_len: usize,
         index: u32,
-        refusal: u8,
+        refusal: u32,
         lines: *mut u32,
         bytes: *mut u32,
         size: *mut usize,
@@ -105,7 +107,7 @@ extern "C" {
     pub fn wick_line_day(
         buffer: *mut u8,
         buffer_len: usize,
-        day: u16,
+        day: u32,
         lines: *mut u32,
         bytes: *mut u32,
         size: *mut usize,
@@ -114,8 +116,8 @@ extern "C" {
         buffer: *mut u8,
         buffer_len: usize,
         number: u32,
-        account: u8,
-        security: u8,
+        account: u32,
+        security: u32,
         quantity: i64,
         money: i64,
         lines: *mut u32,
@@ -125,8 +127,8 @@ extern "C" {
     pub fn wick_line_charge(
         buffer: *mut u8,
         buffer_len: usize,
-        account: u8,
-        currency: u8,
+        account: u32,
+        currency: u32,
         charge: i64,
         lines: *mut u32,
         bytes: *mut u32,

@@ -1,22 +1,23 @@
 //! The lines of a sheet, one by one.
 
+use crate::book::Currency;
 use crate::ffi;
 use crate::refusal::Refusal;
-use crate::units::{Mils, Shares};
+use crate::units::{Account, Mils, Place, Security, Shares};
 
 /// A line of the sheet.
 #[derive(Clone, Copy, Debug, PartialEq, Eq)]
 pub enum Line {
     /// `R` index refusal
-    Refusal { index: u32, refusal: u8 },
+    Refusal { index: u32, refusal: Refusal },
     /// `X` place
-    Place(u32),
+    Place(Place),
     /// `DAY` day
     Day(u16),
     /// `P` number account security quantity money
-    Open { number: u32, account: u8, security: u8, quantity: Shares, money: Mils },
+    Open { number: u32, account: Account, security: Security, quantity: Shares, money: Mils },
     /// `C` account currency charge
-    Charge { account: u8, currency: u8, charge: Mils },
+    Charge { account: Account, currency: Currency, charge: Mils },
     /// `E` lines above it
     End(u32),
 }
@@ -38,15 +39,15 @@ pub fn write_line<'a>(buffer: &'a mut [u8], line: &Line, tally: &mut Tally) -> R
     let number = unsafe {
         match *line {
             Line::Refusal { index, refusal } => {
-                ffi::wick_line_refusal(at, room, index, refusal, lines, bytes, &mut size)
+                ffi::wick_line_refusal(at, room, index, refusal.number().into(), lines, bytes, &mut size)
             }
-            Line::Place(place) => ffi::wick_line_place(at, room, place, lines, bytes, &mut size),
-            Line::Day(day) => ffi::wick_line_day(at, room, day, lines, bytes, &mut size),
+            Line::Place(place) => ffi::wick_line_place(at, room, place.0, lines, bytes, &mut size),
+            Line::Day(day) => ffi::wick_line_day(at, room, day.into(), lines, bytes, &mut size),
             Line::Open { number, account, security, quantity, money } => ffi::wick_line_open(
-                at, room, number, account, security, quantity.0, money.0, lines, bytes, &mut size,
+                at, room, number, account.0, security.0, quantity.0, money.0, lines, bytes, &mut size,
             ),
             Line::Charge { account, currency, charge } => {
-                ffi::wick_line_charge(at, room, account, currency, charge.0, lines, bytes, &mut size)
+                ffi::wick_line_charge(at, room, account.0, currency as u32, charge.0, lines, bytes, &mut size)
             }
             Line::End(above) => ffi::wick_line_end(at, room, above, lines, bytes, &mut size),
         }

@@ -1,0 +1,22 @@
+-- `wickdamson::holdings::wick_deposit` meets its contract: account and security are never cut. Assumes nothing.
+use borrow.Author.Needs.{needs}
+use Rattle.wickdamson.proofs.holdings.wick_deposit.Statement.{statement}
+use Rattle.wickdamson.proofs.holdings.wick_deposit.Tie as tie
+
+byte-of-requires : tie.Need-byte-of-requires
+byte-of-requires c κs = search needs
+
+byte-of-requires-2 : tie.Need-byte-of-requires-2
+byte-of-requires-2 c κs = search needs
+
+deposit-requires : tie.Need-deposit-requires
+deposit-requires c κs = search needs
+
+same-length : tie.Need-same-length
+same-length c = search needs
+
+returns : tie.Need-returns
+returns c = rw (c .before .before .before .before .before .byte-of .ensures, c .before .before .before .before .byte-of2 .ensures) at (c .before .before .deposit .ensures)
+
+pub wick-deposit-spec : {M : Type 1} → statement M
+wick-deposit-spec = tie.close (tie.spec byte-of-requires byte-of-requires-2 deposit-requires same-length returns)
