@@ -144,6 +144,16 @@ def shown(at, count, value):
     expected += f" {value}"
 
 
+# all records and charges that stand in the book now, by number, and by account and currency
+def standing(records, charges):
+    global expected
+    command(13)
+    for number, shares, money in records:
+        expected += f" | {number} {shares} {money}"
+    for account, currency, money in charges:
+        expected += f" / {account * 4 + currency} {money}"
+
+
 # ── the sentences of "A sound book", one by one ──
 
 
@@ -268,6 +278,28 @@ amend(8, 1)
 enter(7, 1)
 exclude(8, 77)
 amend(8, 77)
+say("\na high byte of quantity, price and number:")
+create()
+enter(4, 1, quantity=0x01000001)
+enter(5, 1, price=0x01000001)
+enter(0, 0x0105, quantity=3)
+enter(0, 0x0005, quantity=4)
+amend(8, 0x0205)
+exclude(8, 0x0205)
+exclude(0, 0x0105)
+exclude(8, 0x0105)
+roll(0)
+standing([(4128, 4, 400), (4160, -4, -400)], [])
+say("\nplaces in the list: entered, amended, excluded:")
+create()
+enter(0, 7, quantity=5)
+enter(0, 3, quantity=6)
+enter(0, 9, quantity=7)
+amend(0, 3, 4, 5, 1, 8, 13)
+exclude(0, 7)
+for row, number, shares in [(0, 7, 0), (1, 3, 8), (2, 9, 7)]:
+    shown(TRADES + 13 * row, 2, number)
+    shown(TRADES + 13 * row + 5, 4, shares)
 say("\n")
 
 # ── 2. holdings ──
@@ -292,6 +324,14 @@ deposit(2, 64, 0, 1)
 withdraw(2, 255, 0, 1)
 deposit(3, 0, 32, 1)
 withdraw(3, 0, 4, 1)
+say("\n10^12 of each security, a high byte:")
+create()
+deposit(0, 0, 0, 10**12)
+deposit(0, 1, 1, 1)
+deposit(0, 2, 1, 10**12 - 1)
+deposit(12, 3, 1, 1)
+deposit(4, 0, 2, 2**56 + 5)
+withdraw(4, 0, 0, 2**56 + 5)
 say("\n")
 
 # ── 3. books that break one sentence ──
@@ -337,6 +377,12 @@ base()
 position(0, 9, 1, 0, 256_000_001, 50)
 position(1, 9, 2, 0, -256_000_000, -50)
 position(3, 10, 3, 0, -4, -30)
+refused("quantity")
+
+base()
+position(0, 9, 1, 0, 256_000_000, 50)
+position(1, 9, 2, 0, -256_000_001, -50)
+position(2, 10, 1, 0, 4, 30)
 refused("quantity")
 
 base()
@@ -447,6 +493,14 @@ assert broken(book) == []
 exclude(8, 3)
 say("\n")
 
+# account 4 has money open in currency 1, other accounts have some in currency 0
+say("at stake, each account and currency:")
+base()
+charge(4, 0, 2_621_440_000_000_000_000)
+assert broken(book) == []
+exclude(8, 3)
+say("\n")
+
 # ── 4. rolls: 14, 10, 10 before 14 ──
 
 
@@ -524,6 +578,33 @@ run(0, 0, 22)
 shown(RECORDS, 2, 2)
 shown(POSITIONS + 4, 8, -3)
 shown(POSITIONS + 24, 8, 3)
+say("\nrecords of another security, and those due tomorrow:")
+empty()
+enter(0, 1, 1, 2, 0, 10, 100)
+enter(0, 2, 1, 2, 1, 5, 200)
+roll(0)
+enter(0, 1, 3, 2, 0, 4, 101)
+roll(0)
+deposit(0, 2, 0, 20)
+deposit(0, 2, 1, 20)
+run(0, 0, 10)
+standing([(4129, 5, 1000), (4161, -5, -1000), (6208, -4, -404), (6240, 4, 404)], [(1, 0, 1000), (2, 0, -1000)])
+run(0, 1, 5)
+standing([(6208, -4, -404), (6240, 4, 404)], [(1, 0, 1000), (1, 1, 1000), (2, 0, -1000), (2, 1, -1000)])
+say("\n3 shares for 1001, one by one:")
+empty()
+enter(0, 1, 1, 2, 0, 4, 300)
+enter(0, 2, 3, 1, 0, 1, 199)
+roll(0)
+roll(0)
+for left, paid in [(668, 333), (334, 667)]:
+    deposit(0, 2, 0, 1)
+    run(0, 0, 1)
+    shown(POSITIONS + 12, 8, left)
+    shown(CHARGES + 8 * 4, 8, paid)
+deposit(0, 2, 0, 1)
+run(0, 0, 1)
+standing([(4160, -1, -300), (4192, 1, 199)], [(1, 0, 1001), (2, 0, -900)])
 say("\nother securities, unlisted, above 31:")
 run(0, 1, 0)
 run(3, 4)
@@ -582,8 +663,11 @@ def moved_of(name, index, refusals):
     expected += f" {refusals[index]}" if index in refusals else f" 0 {MOVED[name, index]}"
 
 
+# (not `heavy`: its 20,000 records are for the whole file as one call, and a script has at most 8,192 commands)
 for path in sorted(VECTORS.glob("*.bin")):
-    vector(path)
+    if path.stem != "heavy":
+        vector(path)
+assert len(script) // 16 <= 8192
 
 (CRATE / "stdin").write_bytes(script)
 (CRATE / "stdout").write_text(expected)

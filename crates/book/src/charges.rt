@@ -3,23 +3,19 @@
 use crate::layout::CHARGE_BYTES;
 use crate::layout::CHARGES;
 use crate::layout::ENTRIES;
-use crate::word::word;
+use crate::words::word;
 use crate::zeros::put_zeros;
 use fields::put;
 use units::Mils;
-use units::Whole;
 ghost use mathlib.Core.Path.{_≡_};
 ghost use Prim.Native.Nat.{_*_, _<_};
-ghost use lib.ListN.{length, getD, set, drop};
+ghost use lib.ListN.{length, getD, set};
 ghost use lib.IntN.{pos};
-ghost use Rattle.fields.specs.Field.{stored};
-ghost use Rattle.fields.specs.Codec.{readRows, writeRows};
 ghost use Rattle.units.specs.Units.{mils};
 ghost use Rattle.rules.specs.Bounds.{accounts, currencies};
 ghost use Rattle.rules.specs.Book.{withCharges};
-ghost use Rattle.rules.specs.Layout.{amount, bookLength, bookOf};
+ghost use Rattle.rules.specs.Layout.{bookLength, bookOf};
 ghost use Rattle.rules.specs.Roll.{uncharged};
-ghost use Rattle.book.specs.Places.{chargesPlace};
 ghost use Rattle.book.specs.Replacing.{Holds};
 
 // One charge where it stands.
@@ -36,32 +32,6 @@ pub fn put_charge(b: &mut [u8], i: usize, m: Mils)
     ensures { λ _. ⌜ Holds (now (b .exit)) (withCharges (bookOf (now (b .entry))) (set (bookOf (now (b .entry)) .charges) i m)) ⌝ }
 {
     put(b, CHARGES + i * CHARGE_BYTES, 8, m.bits());
-}
-
-pub(crate) fn charges_at(b: &[u8]) -> [Mils; 256]
-    requires { ⌜ length (now b) ≡ bookLength ⌝ }
-    ensures { λ r. ⌜ r ≡ readRows amount 256 (drop chargesPlace (now (b .entry))) ⌝ }
-{
-    let none = Mils(Whole(0));
-    let mut t = [none; 256];
-    let mut i: usize = 0;
-    while i < 256 {
-        t[i] = Mils::from_bits(word(b, CHARGES + i * CHARGE_BYTES));
-        i += 1;
-    }
-    t
-}
-
-pub(crate) fn put_charges(t: [Mils; 256], b: &mut [u8])
-    requires { ⌜ length (now b) ≡ bookLength ⌝ }
-    ensures { λ _. ⌜ now (b .exit) ≡ stored (now (b .entry)) chargesPlace (writeRows amount t) ⌝ }
-{
-    let mut i: usize = 0;
-    while i < 256 {
-        let m = t[i];
-        put(b, CHARGES + i * CHARGE_BYTES, 8, m.bits());
-        i += 1;
-    }
 }
 
 // All charges are set to zero where they stand: an amount of 0 is 8 bytes of 0, and the table ends where the count of

@@ -2,13 +2,10 @@
 use crate::layout::CODE_BYTES;
 use crate::layout::CODES;
 use fields::get;
-use fields::put;
-use fields::wide;
 ghost use mathlib.Core.Path.{_≡_};
 ghost use Prim.Native.Nat.{_<_};
 ghost use lib.ListN.{length, getD, drop};
-ghost use Rattle.fields.specs.Field.{stored};
-ghost use Rattle.fields.specs.Codec.{number, readRows, writeRows};
+ghost use Rattle.fields.specs.Codec.{number, readRows};
 ghost use Rattle.rules.specs.Bounds.{securities};
 ghost use Rattle.rules.specs.Layout.{bookLength, bookOf};
 ghost use Rattle.book.specs.Places.{codesPlace};
@@ -28,7 +25,7 @@ pub fn codes_of(b: &[u8]) -> [u8; 32]
     codes_at(b)
 }
 
-pub(crate) fn codes_at(b: &[u8]) -> [u8; 32]
+pub fn codes_at(b: &[u8]) -> [u8; 32]
     requires { ⌜ length (now b) ≡ bookLength ⌝ }
     ensures { λ r. ⌜ r ≡ readRows (number 1) 32 (drop codesPlace (now (b .entry))) ⌝ }
 {
@@ -39,15 +36,4 @@ pub(crate) fn codes_at(b: &[u8]) -> [u8; 32]
         i += 1;
     }
     t
-}
-
-pub(crate) fn put_codes(t: [u8; 32], b: &mut [u8])
-    requires { ⌜ length (now b) ≡ bookLength ⌝ }
-    ensures { λ _. ⌜ now (b .exit) ≡ stored (now (b .entry)) codesPlace (writeRows (number 1) t) ⌝ }
-{
-    let mut i: usize = 0;
-    while i < 32 {
-        put(b, CODES + i * CODE_BYTES, 1, wide(t[i]));
-        i += 1;
-    }
 }

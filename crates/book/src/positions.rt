@@ -1,7 +1,7 @@
 // The position table: 1,024 rows of a position number, shares and money.
 use crate::layout::POSITION_BYTES;
 use crate::layout::POSITIONS;
-use crate::word::word;
+use crate::words::word;
 use fields::get;
 use fields::put;
 use rules::Position;
@@ -12,7 +12,7 @@ ghost use mathlib.Core.Path.{_≡_};
 ghost use Prim.Native.Nat.{_+_, _<_, _≤_};
 ghost use lib.ListN.{length, getD, set, drop};
 ghost use Rattle.fields.specs.Field.{stored};
-ghost use Rattle.fields.specs.Codec.{readRows, writeRows};
+ghost use Rattle.fields.specs.Codec.{readRows};
 ghost use Rattle.rules.specs.Bounds.{mostRecords};
 ghost use Rattle.rules.specs.Book.{noPosition};
 ghost use Rattle.rules.specs.Layout.{position, bookLength, bookOf};
@@ -43,7 +43,7 @@ pub fn position_at(b: &[u8], i: usize) -> Position
 }
 
 // All rows, used or not: whether the unused ones are zero is a question of soundness, and a book that is lent may hold anything.
-pub(crate) fn positions_at(b: &[u8]) -> [Position; 1024]
+pub fn positions_at(b: &[u8]) -> [Position; 1024]
     requires { ⌜ length (now b) ≡ bookLength ⌝ }
     ensures { λ r. ⌜ r ≡ readRows position 1_024 (drop positionsPlace (now (b .entry))) ⌝ }
 {
@@ -70,7 +70,7 @@ pub fn positions_of(b: &[u8]) -> [Position; 1024]
 }
 
 // Each field is written where the one before it ends.
-fn put_row(p: Position, b: &mut [u8], at: usize)
+pub fn put_row(p: Position, b: &mut [u8], at: usize)
     requires { ⌜ at + 20 ≤ length (now b) ⌝ }
     ensures { λ _. ⌜ now (b .exit) ≡ stored (now (b .entry)) at (position .write p) ⌝ }
 {
@@ -87,16 +87,4 @@ pub fn put_position(b: &mut [u8], i: usize, p: Position)
     ensures { λ _. ⌜ Holds (now (b .exit)) (withRows (bookOf (now (b .entry))) (bookOf (now (b .entry)) .records) (set (bookOf (now (b .entry)) .positions) i p)) ⌝ }
 {
     put_row(p, b, POSITIONS + i * POSITION_BYTES);
-}
-
-pub(crate) fn put_positions(t: [Position; 1024], b: &mut [u8])
-    requires { ⌜ length (now b) ≡ bookLength ⌝ }
-    ensures { λ _. ⌜ now (b .exit) ≡ stored (now (b .entry)) positionsPlace (writeRows position t) ⌝ }
-{
-    let mut i: usize = 0;
-    while i < 1024 {
-        let p = t[i];
-        put_row(p, b, POSITIONS + i * POSITION_BYTES);
-        i += 1;
-    }
 }

@@ -76,7 +76,7 @@ pub fn clear_list(b: &mut [u8])
 }
 
 // All rows, used or not, as in the position table.
-pub(crate) fn trades_at(b: &[u8]) -> [Trade; 256]
+pub fn trades_at(b: &[u8]) -> [Trade; 256]
     requires { ⌜ length (now b) ≡ bookLength ⌝ }
     ensures { λ r. ⌜ r ≡ readRows trade 256 (drop tradesPlace (now (b .entry))) ⌝ }
 {
@@ -111,7 +111,7 @@ fn put_trade(t: Trade, b: &mut [u8], at: usize)
     put(b, at + 9, 4, price.0 as u64);
 }
 
-pub(crate) fn put_trades(t: [Trade; 256], b: &mut [u8])
+pub fn put_trades(t: [Trade; 256], b: &mut [u8])
     requires { ⌜ length (now b) ≡ bookLength ⌝ }
     ensures { λ _. ⌜ now (b .exit) ≡ stored (now (b .entry)) tradesPlace (writeRows trade t) ⌝ }
 {

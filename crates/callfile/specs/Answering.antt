@@ -1,7 +1,7 @@
 -- One record as a call of its own: its answer and the bytes that it leaves, by what stands at its place.
 use mathlib.Core.Path.{_≡_, refl, sym, ap, _∙_}
 use mathlib.Core.Bool.{Bool, true, false, not, _&&_, _||_}
-use mathlib.Core.List.{List, [], _∷_}
+use mathlib.Core.List.{List}
 use Prim.Native.Nat.{ℕ, _+_, _≤_, _<_}
 use native.Mathlib.Omega.{arith}
 use lib.Dec.{eqb, leb, ltb}
@@ -14,16 +14,23 @@ use Rattle.rules.specs.Bounds.{mostFile}
 use Rattle.rules.specs.Book.{emptyBook}
 use Rattle.rules.specs.Layout.{bookLength, bytesOf}
 use Rattle.rules.specs.Calls.{Call, answerBytes, figureBytes, afterBytes}
-use Rattle.rules.specs.Records.{create, call, unreadable, lengthOf, recordAt, otherVersion, tooLong, fileRefused, pastEnd, answerTo, recordAnswer, bytesAfter, applies, recordBytes}
+use Rattle.rules.specs.Records.{create, call, unreadable, lengthOf, recordAt, otherVersion, tooLong, fileRefused, pastEnd, answerTo, recordAnswer, bytesAfter, applies, recordBytes, numberOfRecord, figureOfRecord, nextOfRecord, recordNumber, recordFigure, recordNext}
 use Rattle.rules.specs.declared.RecordAnswer.{RecordAnswer}
 use Rattle.rules.specs.declared.RecordAnswer.the-variants.{Answered, Unreadable, Ended, FileRefused}
 use Rattle.rules.specs.declared.RunAnswer.{RunAnswer}
 use Rattle.rules.specs.declared.RunAnswer.the-variants.{Moved, RunRefused}
 use Rattle.laws.specs.Cases.{by-test, cond-yes, cond-no}
+use Rattle.laws.specs.EnumAnswers.{record-told}
 
 -- answer and bytes
 abbrev pub Done : List ℕ → List ℕ → ℕ → RecordAnswer → List ℕ → Type 0
 Done book file place r new = (r ≡ recordAnswer book file place) × (new ≡ recordBytes book file place)
+
+-- and what the answer's number, figure and next place are
+pub told : (book file : List ℕ) (place : ℕ) (r : RecordAnswer) (new : List ℕ) → Done book file place r new
+    → (r ≡ recordAnswer book file place) × (new ≡ recordBytes book file place) × (numberOfRecord r ≡ recordNumber book file place)
+    × (figureOfRecord r ≡ pos (recordFigure book file place)) × (nextOfRecord r ≡ recordNext book file place)
+told book file place r new d = let t = record-told book file place r (d .0) in (d .0, d .1, t .0, t .1, t .2)
 
 module _ (book file : List ℕ) (place : ℕ) where
   -- an answer that applies nothing
@@ -111,21 +118,6 @@ pub record Ready (book file : List ℕ) (place : ℕ) : Type 0 where
 unfoldable pub ranAs : RunAnswer → ℕ → RecordAnswer
 ranAs (Moved q) next = Answered 0 q next
 ranAs (RunRefused n) next = Answered n (shares (pos 0)) next
-
--- ── version and end, as the code tests them ──
-
-pub empty-other : (file : List ℕ) → length file ≡ 0 → true ≡ otherVersion file
-unfolding otherVersion
-empty-other [] h = refl
-empty-other (b ∷ bs) h = absurd (omega arith)
-
-pub at-front : (file : List ℕ) (place : ℕ) → place ≤ 1 → false ≡ pastEnd file place
-unfolding pastEnd
-at-front file place h = sym (ap (λ (b : Bool). b && leb (length file) place) (le-ltb 1 place h))
-
-pub behind-front : (file : List ℕ) (place : ℕ) → 1 < place → leb (length file) place ≡ pastEnd file place
-unfolding pastEnd
-behind-front file place h = sym (ap (λ (b : Bool). b && leb (length file) place) (lt-ltb 1 place h))
 
 -- a place that is asked for is within the file, or is one of the first two
 pub place-small : (book file : List ℕ) (place : ℕ) → Ready book file place → place ≤ mostFile

@@ -21,7 +21,7 @@ use Rattle.rules.specs.declared.RecordAnswer.{RecordAnswer}
 use Rattle.rules.specs.declared.RecordAnswer.the-variants.{Answered, Unreadable}
 use Rattle.rules.specs.declared.RunAnswer.{RunAnswer}
 use Rattle.laws.specs.Cases.{by-test, true-false, both-hold, cond-yes, cond-no}
-use Rattle.callfile.specs.Bodies.{codesAt}
+use Rattle.callfile_format.specs.Bodies.{codesAt}
 use Rattle.callfile.specs.Rooms.{isCreate, call-no-create, body-there, create-long}
 use Rattle.callfile.specs.Answering.{Done, Ready, ranAs, not-refused, none-there, call-there, create-there}
 

@@ -12,7 +12,7 @@ use Rattle.rules.specs.Calls.{Call}
 use Rattle.rules.specs.Records.{Record, create, call, unreadable, lengthOf, Form, formsOf, readAs, isCut, frontOf, recordAt, inPlace}
 use Rattle.rules.specs.CallFile.{isUnreadable}
 use Rattle.laws.specs.Cases.{by-test, true-false, both-hold, neither, cond-yes, cond-no}
-use Rattle.callfile.specs.Reading.{CallsOnly}
+use Rattle.callfile_format.specs.Reading.{CallsOnly}
 
 unfoldable pub isCreate : Record → Bool
 isCreate (create codes) = true

@@ -1,57 +1,24 @@
 // One record of a call file, as a call of its own (document 01, "Call file and sheet"; refusals 18, 19 and those of its
 // call).
-use crate::reading::Read;
-use crate::reading::record_at;
 use book::BOOK_BYTES;
+use callfile_format::Read;
+use callfile_format::next_of;
+use callfile_format::other_version;
+use callfile_format::past_end;
+use callfile_format::record_at;
 use rules::RecordAnswer;
 use rules::RunAnswer;
 use units::Shares;
 use units::Whole;
 ghost use mathlib.Core.Path.{_≡_};
-ghost use mathlib.Core.Bool.{false};
-ghost use Prim.Native.Nat.{_+_, _≤_};
-ghost use lib.ListN.{length, drop};
+ghost use Prim.Native.Nat.{_+_};
 ghost use lib.IntN.{pos};
 ghost use Rattle.units.specs.Units.{shares};
-ghost use Rattle.rules.specs.Bounds.{mostFile};
-ghost use Rattle.rules.specs.Records.{lengthOf, recordAt, otherVersion, pastEnd, recordAnswer, recordBytes};
+ghost use Rattle.rules.specs.Records.{recordAt, recordAnswer, recordBytes, numberOfRecord, figureOfRecord, nextOfRecord, recordNumber, recordFigure, recordNext};
 ghost use Rattle.rules.specs.declared.RecordAnswer.the-variants.{Answered};
-ghost use Rattle.callfile.specs.Bodies.{codesAt};
-ghost use Rattle.callfile.specs.Reading.{says};
+ghost use Rattle.callfile_format.specs.Bodies.{codesAt};
+ghost use Rattle.callfile_format.specs.Reading.{says};
 ghost use Rattle.callfile.specs.Answering.{Ready, ranAs};
-
-// An empty file has no version, and so another.
-pub fn other_version(file: &[u8]) -> bool
-    ensures { λ r. ⌜ r ≡ otherVersion (now (file .entry)) ⌝ }
-{
-    if file.len() == 0 {
-        return true;
-    }
-    file[0] != 1
-}
-
-// A version with no record behind it is not the end: it is unreadable at place 1.
-fn past_end(file: &[u8], place: u32) -> bool
-    ensures { λ r. ⌜ r ≡ pastEnd (now (file .entry)) place ⌝ }
-{
-    if place <= 1 {
-        return false;
-    }
-    file.len() <= place as usize
-}
-
-// Where the record behind the one at a place begins, if that can be read.
-fn next_of(file: &[u8], place: u32) -> u32
-    requires { ⌜ place ≤ mostFile ⌝ }
-    ensures { λ r. ⌜ (place + 2 ≤ length (now (file .entry)) → r ≡ place + 2 + lengthOf (drop place (now (file .entry)))) ⌝ }
-{
-    let at = place as usize;
-    if file.len() < at + 2 {
-        return 0;
-    }
-    let long = fields::get(file, at, 2) as u32;
-    place + 2 + long
-}
 
 // The answer of a call that has no figure.
 fn answered(number: u8, next: u32) -> RecordAnswer
@@ -96,7 +63,10 @@ fn applied(book: &mut [u8], file: &[u8], place: u32, found: Read) -> RecordAnswe
 // The record at a place: the first stands at place 1, and each answer tells the place of the next.
 pub fn play_record(book: &mut [u8], file: &[u8], place: u32) -> RecordAnswer
     ensures { λ r. ⌜ (r ≡ recordAnswer (now (book .entry)) (now (file .entry)) place)
-        × (now (book .exit) ≡ recordBytes (now (book .entry)) (now (file .entry)) place) ⌝ }
+        × (now (book .exit) ≡ recordBytes (now (book .entry)) (now (file .entry)) place)
+        × (numberOfRecord r ≡ recordNumber (now (book .entry)) (now (file .entry)) place)
+        × (figureOfRecord r ≡ pos (recordFigure (now (book .entry)) (now (file .entry)) place))
+        × (nextOfRecord r ≡ recordNext (now (book .entry)) (now (file .entry)) place) ⌝ }
 {
     if file.len() > 65_535 {
         return RecordAnswer::FileRefused(18);

@@ -1,7 +1,4 @@
--- Calls on lent bytes that are a sound book: the ways that their code takes, and what each call's steps may count on.
-pub mod Lent
+-- Calls on lent bytes that are a sound book: what each call's steps may count on.
 pub mod Holdings
 pub mod Entries
-pub mod Rolls
-pub mod Quiet
 pub mod Runs

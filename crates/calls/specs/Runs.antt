@@ -20,7 +20,7 @@ use Rattle.laws.specs.Cases.{cond-yes, cond-no}
 use Rattle.laws.specs.SoundRun.{sound-test-13}
 use Rattle.settling.specs.Ends.{refused-3, security-below, accepted as answer-0}
 use Rattle.settling.specs.Idle.{idle-book, idle-figure}
-use Rattle.calls.specs.Lent.{shaped, long, is-sound, refused, accepted}
+use Rattle.laws.specs.SoundBytes.{shaped, long, is-sound, refused, accepted}
 
 module _ (bs : List ℕ) (fine : notSound bs ≡ false) (s : ℕ) where
   pub run-refused : (n : ℕ) → n ≡ answerSound (bookOf bs) (run s) → (n ≡ 0 → ⊥) → (RunRefused n ≡ runAnswer bs s) × (bs ≡ afterBytes bs (run s))

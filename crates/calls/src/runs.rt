@@ -2,10 +2,11 @@
 // moved, 0 included: where nothing can be given, no byte is written.
 use book::codes_of;
 use rules::RunAnswer;
-use settling::deliverable_of;
 use settling::run_refusal;
 use settling::with_run;
+use settling_counts::deliverable_of;
 use sound_tables::bad_security;
+use units::Quantity;
 use units::Shares;
 ghost use mathlib.Core.Path.{_≡_};
 ghost use mathlib.Core.Bool.{false};
@@ -21,8 +22,8 @@ pub fn run(book: &mut [u8], security: u8) -> RunAnswer
         return RunAnswer::RunRefused(3);
     }
     let gives = deliverable_of(book, security);
-    if gives == 0 {
-        return RunAnswer::Moved(Shares::of(false, 0));
+    if gives.0 == 0 {
+        return RunAnswer::Moved(Shares::of(false, Quantity(0)));
     }
     let refusal = run_refusal(book, security, gives);
     if refusal != 0 {

@@ -1,6 +1,6 @@
 // Creation of a book (document 01, "What the book covers"; refusals 18 and 3).
 use book::BOOK_BYTES;
-use book::store;
+use book_whole::store;
 use rules::Book;
 use rules::Position;
 use rules::Trade;

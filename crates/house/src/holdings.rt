@@ -1,4 +1,5 @@
 // Deposits and withdrawals (document 01, "Refusal numbers": 1, 2, 3, 4, and 12 or 11).
+use crate::UNSOUND;
 use soundness::not_sound;
 ghost use mathlib.Core.Path.{_≡_};
 ghost use Rattle.rules.specs.Calls.{deposit, withdraw, answerBytes, afterBytes};
@@ -8,7 +9,7 @@ pub fn deposit(book: &mut [u8], account: u8, security: u8, quantity: u64) -> u8
         × (now (book .exit) ≡ afterBytes (now (book .entry)) (deposit account security quantity)) ⌝ }
 {
     if not_sound(book) {
-        return 1;
+        return UNSOUND;
     }
     calls::deposit(book, account, security, quantity)
 }
@@ -18,7 +19,7 @@ pub fn withdraw(book: &mut [u8], account: u8, security: u8, quantity: u64) -> u8
         × (now (book .exit) ≡ afterBytes (now (book .entry)) (withdraw account security quantity)) ⌝ }
 {
     if not_sound(book) {
-        return 1;
+        return UNSOUND;
     }
     calls::withdraw(book, account, security, quantity)
 }

@@ -10,9 +10,12 @@ pub use creation::create;
 pub use holdings::deposit;
 pub use holdings::withdraw;
 pub use marked::marks;
-pub use marking::price;
+pub use marking_prices::price;
 pub use settlement::roll;
 pub use settlement::run;
 pub use trades::amend;
 pub use trades::enter;
 pub use trades::exclude;
+
+// 1: book not sound. Every call on a book asks this before all else.
+pub(crate) const UNSOUND: u8 = 1;

@@ -1,4 +1,5 @@
 // Entry, amendment and exclusion of trades (document 01, "From trades to positions"; refusals 1 to 9).
+use crate::UNSOUND;
 use rules::Trade;
 use soundness::not_sound;
 ghost use mathlib.Core.Path.{_≡_};
@@ -9,7 +10,7 @@ pub fn enter(book: &mut [u8], trade: Trade) -> u8
         × (now (book .exit) ≡ afterBytes (now (book .entry)) (enter trade)) ⌝ }
 {
     if not_sound(book) {
-        return 1;
+        return UNSOUND;
     }
     calls::enter(book, trade)
 }
@@ -19,7 +20,7 @@ pub fn amend(book: &mut [u8], trade: Trade) -> u8
         × (now (book .exit) ≡ afterBytes (now (book .entry)) (amend trade)) ⌝ }
 {
     if not_sound(book) {
-        return 1;
+        return UNSOUND;
     }
     calls::amend(book, trade)
 }
@@ -29,7 +30,7 @@ pub fn exclude(book: &mut [u8], number: u16) -> u8
         × (now (book .exit) ≡ afterBytes (now (book .entry)) (exclude number)) ⌝ }
 {
     if not_sound(book) {
-        return 1;
+        return UNSOUND;
     }
     calls::exclude(book, number)
 }

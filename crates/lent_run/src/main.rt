@@ -1,19 +1,10 @@
-// The public calls that the other programs do not make: creation refused, books of another length, the price question,
-// a file record by record and whole, lines with a tally. Standard input holds the whole example of document 01 with one
-// byte behind it, which is a cut record; the expected output (stdout) is written by hand from the rules.
-use libc::STDIN_FILENO;
+// Calls of the house that the other programs do not make: creation refused, books of another length, the price
+// question. The expected output (stdout) is written by hand from the rules.
 use libc::STDOUT_FILENO;
-use lines::Counted;
-use playing::Played;
-use rules::Line;
 use rules::MarksAnswer;
-use rules::RecordAnswer;
 use rules::RunAnswer;
-use rules::Tally;
 use rules::Trade;
-use units::Mils;
 use units::Price;
-use units::Whole;
 
 fn print_text(text: &[u8]) {
     io::write_all(STDOUT_FILENO, text);
@@ -27,20 +18,25 @@ fn print_number(n: u64) {
 // ── creation ──
 
 // "Creation: 18, 3": a book or a table of another length, then a code that is neither 0 to 3 nor 255.
-fn creation(book: &mut [u8]) {
+fn creations(book: &mut [u8], short: &mut [u8]) {
     let mut codes = [255u8; 32];
     codes[0] = 0;
     let few = [0u8; 31];
-    let mut short = [0u8; 42277];
     print_text(b"creation");
     print_number(house::create(book, &few) as u64);
-    print_number(house::create(&mut short, &codes) as u64);
+    print_number(house::create(short, &codes) as u64);
     codes[31] = 4;
     print_number(house::create(book, &codes) as u64);
-    print_number(house::create(&mut short, &codes) as u64);
+    print_number(house::create(short, &codes) as u64);
     codes[31] = 3;
     print_number(house::create(book, &codes) as u64);
     print_text(b"\n");
+}
+
+fn creation() {
+    let mut book = [0u8; 42278];
+    let mut short = [0u8; 42277];
+    creations(&mut book, &mut short);
 }
 
 // ── a book of another length ──
@@ -92,14 +88,18 @@ fn marks_call(book: &[u8]) {
     print_number(marks_number(marks) as u64);
 }
 
+fn every_call(book: &mut [u8]) {
+    print_text(b"a book of another length");
+    trade_calls(book);
+    holding_calls(book);
+    day_calls(book);
+    marks_call(book);
+    print_text(b"\n");
+}
+
 fn other_length() {
     let mut book = [0u8; 42279];
-    print_text(b"a book of another length");
-    trade_calls(&mut book);
-    holding_calls(&mut book);
-    day_calls(&mut book);
-    marks_call(&book);
-    print_text(b"\n");
+    every_call(&mut book);
 }
 
 // ── the price question ──
@@ -143,135 +143,9 @@ fn no_prices() {
     print_text(b"\n");
 }
 
-// ── a file ──
-
-// A record's answer and figure; the place of the next, or 0 where nothing more is read.
-fn print_record(answer: RecordAnswer) -> u32 {
-    match answer {
-        RecordAnswer::Answered(n, moved, next) => {
-            print_number(n as u64);
-            print_number(moved.size());
-            print_text(b";");
-            next
-        }
-        RecordAnswer::Unreadable(place) => {
-            print_text(b" 19");
-            print_number(place as u64);
-            print_text(b";");
-            0
-        }
-        RecordAnswer::Ended => {
-            print_text(b" end");
-            0
-        }
-        RecordAnswer::FileRefused(n) => {
-            print_number(n as u64);
-            0
-        }
-    }
-}
-
-fn play_next(book: &mut [u8], file: &[u8], place: u32) -> u32 {
-    print_record(callfile::play_record(book, file, place))
-}
-
-// Create, two trades, two deposits,
-fn first_five(book: &mut [u8], file: &[u8]) -> u32 {
-    let first = play_next(book, file, 1);
-    let second = play_next(book, file, first);
-    let third = play_next(book, file, second);
-    let fourth = play_next(book, file, third);
-    play_next(book, file, fourth)
-}
-
-// two rolls, a run, and the cut record.
-fn last_four(book: &mut [u8], file: &[u8], place: u32) {
-    let sixth = play_next(book, file, place);
-    let seventh = play_next(book, file, sixth);
-    let eighth = play_next(book, file, seventh);
-    play_next(book, file, eighth);
-}
-
-fn record_by_record(book: &mut [u8], file: &[u8]) {
-    print_text(b"record by record");
-    let behind = first_five(book, file);
-    last_four(book, file, behind);
-    print_text(b"\n");
-}
-
-// 9 bytes for each answer: number 1, figure 8.
-fn print_answer(answers: &[u8], index: usize) {
-    if 8 < index {
-        return;
-    }
-    let at = 9 * index;
-    if answers.len() < at + 9 {
-        return;
-    }
-    print_number(fields::get(answers, at, 1));
-    print_number(fields::get(answers, at + 1, 8));
-    print_text(b";");
-}
-
-// Into room for nine answers, and into a byte less.
-fn whole(book: &mut [u8], file: &[u8]) {
-    let mut answers = [0u8; 81];
-    let mut short = [0u8; 80];
-    let refused: Played = playing::play(book, file, &mut short);
-    print_text(b"whole");
-    print_number(refused.number as u64);
-    print_number(refused.size as u64);
-    let played: Played = playing::play(book, file, &mut answers);
-    print_text(b"; whole");
-    print_number(played.number as u64);
-    print_number(played.size as u64);
-    print_text(b":");
-    print_answer(&answers, 6);
-    print_answer(&answers, 7);
-    print_answer(&answers, 8);
-    print_text(b"\n");
-}
-
-// ── lines with a tally ──
-
-// The answer and the tally.
-fn print_counted(c: Counted) -> Tally {
-    let t = c.tally;
-    print_number(c.refusal as u64);
-    print_number(t.lines as u64);
-    print_number(t.bytes as u64);
-    print_text(b";");
-    t
-}
-
-// "A tally of lines and bytes is lent along": a line of 13 bytes, into room for it and into a byte less, and at the
-// tally's bounds.
-fn tallied() {
-    let mut buffer = [45u8; 13];
-    let mut short = [45u8; 12];
-    let line = Line::Charge(63, 3, Mils(Whole(-1_000)));
-    let first = Tally {
-        lines: 999_998,
-        bytes: 999_974,
-    };
-    print_text(b"lines");
-    let second = print_counted(lines::put_counted(&mut buffer, line, first));
-    print_counted(lines::put_counted(&mut short, line, second));
-    let third = print_counted(lines::put_counted(&mut buffer, line, second));
-    print_counted(lines::put_counted(&mut buffer, Line::End(0), third));
-    print_text(b"\n");
-    print_text(&buffer);
-}
-
 fn main() {
-    let mut book = [0u8; 42278];
-    let mut file = [0u8; 105];
-    creation(&mut book);
+    creation();
     other_length();
     prices();
     no_prices();
-    io::read_full(STDIN_FILENO, &mut file);
-    record_by_record(&mut book, &file);
-    whole(&mut book, &file);
-    tallied();
 }

@@ -10,14 +10,14 @@ use native.Mathlib.Omega.{arith}
 use lib.Dec.{leb}
 use lib.ListN.{length, drop, take, length-append}
 use lib.Seq.{take-append-seam}
-use borrow.Author.Tests.{leb-true, eq-eqb, ne-eqb}
+use borrow.Author.Tests.{le-leb, leb-true, eq-eqb, ne-eqb}
 use Rattle.fields.specs.Field.{stored}
 use Rattle.fields.specs.FieldLaws.{stored-eq}
 use Rattle.rules.specs.Bounds.{mostTally}
 use Rattle.rules.specs.Sheet.{textOf, lineAnswer, linePart, lineBytes, lineTally}
 use Rattle.rules.specs.declared.Line.{Line}
 use Rattle.rules.specs.declared.Tally.{Tally}
-use Rattle.laws.specs.Cases.{cond-yes, cond-no, both-hold, by-test}
+use Rattle.laws.specs.Cases.{cond-yes, cond-no, both-hold, and-hold, by-test}
 
 -- a line of so many bytes fits, and neither lines nor bytes pass 1,000,000
 unfoldable pub passes : ℕ → ℕ → Tally → Bool
@@ -26,6 +26,10 @@ passes room size t = leb size room && (leb (t .lines + 1) mostTally && leb (t .b
 -- the tally moved on by one line of so many bytes
 abbrev pub moved : ℕ → Tally → Tally
 moved size t = record { lines = t .lines + 1; bytes = t .bytes + size }
+
+pub passes-by : (room size : ℕ) (t : Tally) → size ≤ room → t .lines + 1 ≤ mostTally → t .bytes + size ≤ mostTally → passes room size t ≡ true
+unfolding passes
+passes-by room size t h k m = and-hold (le-leb size room h) (and-hold (le-leb (t .lines + 1) mostTally k) (le-leb (t .bytes + size) mostTally m))
 
 -- so the tally stays within 1,000,000
 pub passes-below : (room size : ℕ) (t : Tally) → passes room size t ≡ true → (t .lines + 1 ≤ mostTally) × (t .bytes + size ≤ mostTally)

@@ -1,7 +1,7 @@
 // A line is written into a lent buffer and the written part is handed back (document 01, "Call file and sheet").
 use crate::Counted;
 use crate::counting::count_line;
-use crate::texts::put_line;
+use lines_text::put_line;
 use rules::Line;
 use rules::Tally;
 ghost use mathlib.Core.Path.{_≡_};

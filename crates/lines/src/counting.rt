@@ -1,7 +1,7 @@
 // The tally of lines and bytes (document 01: "moved on by every line; neither passes 1,000,000, and a line that would take one
 // past it is refused by 18"), by value.
 use crate::Counted;
-use crate::texts::line_width;
+use lines_text::line_width;
 use rules::Line;
 use rules::Tally;
 ghost use mathlib.Core.Path.{_≡_};

@@ -22,7 +22,7 @@ use Rattle.rules.specs.declared.MarksAnswer.the-variants.{Due, MarksRefused}
 use Rattle.laws.specs.Cases.{by-test, neither}
 use Rattle.laws.specs.Charging.{amountAt}
 use Rattle.marking.specs.SoundMarks.{termsTests, bookTests, numberSound, marksSound}
-use Rattle.marking.specs.Converting.{favourableSum, unfavourableSum}
+use Rattle.marking_sums.specs.Converting.{favourableSum, unfavourableSum}
 use Rattle.marking.specs.Passing.{fault-first, fine-first}
 
 -- ── a total up to the limit ──

@@ -15,10 +15,10 @@ use Rattle.rules.specs.Prices.{wrongTable, entryAbove}
 use Rattle.rules.specs.Marks.{Terms, terms, rateOf, haircutOf, wrongTerms, badRates}
 use Rattle.laws.specs.Cases.{neither}
 use Rattle.laws.specs.Accepted.{passed}
-use Rattle.marking.specs.Looking.{fails-at}
-use Rattle.marking.specs.Pricing.{Tables, tables-right, Fair}
+use Rattle.marking_prices.specs.Looking.{fails-at}
+use Rattle.marking_prices.specs.Pricing.{Tables, tables-right, Fair}
 use Rattle.marking.specs.SoundMarks.{termsTests}
-use Rattle.marking.specs.Converting.{Rates}
+use Rattle.marking_sums.specs.Converting.{Rates}
 
 -- the test of rates and haircuts looks at no price
 abbrev pub rated : List ℕ → List ℕ → Terms

@@ -1,13 +1,14 @@
 // "Due: unfavourable total less favourable total, or 0. The answer has the due and four signed sums." 16: either
 // converted total passes 9*10^18.
-use crate::conversion::favourable_total;
-use crate::conversion::unfavourable_total;
-use crate::marks::PerCurrency;
-use crate::marks::sums_of;
 use crate::terms::terms_refusal;
 use crate::unpriced::has_unpriced;
 use exact::Rounded;
+use marking_sums::PerCurrency;
+use marking_sums::favourable_total;
+use marking_sums::sums_of;
+use marking_sums::unfavourable_total;
 use rules::MarksAnswer;
+use units::Amount;
 use units::Mils;
 ghost use mathlib.Core.Path.{_≡_};
 ghost use mathlib.Core.Bool.{true, _||_};
@@ -18,7 +19,7 @@ ghost use Rattle.rules.specs.Layout.{bookLength, bookOf};
 ghost use Rattle.rules.specs.Sound.{sound};
 ghost use Rattle.rules.specs.Marks.{terms};
 ghost use Rattle.marking.specs.SoundMarks.{marksSound};
-ghost use Rattle.marking.specs.Converting.{Rates};
+ghost use Rattle.marking_sums.specs.Converting.{Rates};
 ghost use Rattle.marking.specs.Answering.{isPast, numberIn, dueWith, answerOf};
 
 fn is_past(total: Rounded) -> bool
@@ -30,12 +31,13 @@ fn is_past(total: Rounded) -> bool
     }
 }
 
-fn number_in(total: Rounded) -> u64
-    ensures { λ r. ⌜ r ≡ numberIn total ⌝ }
+// What a total comes to, in mils of the base.
+fn amount_in(total: Rounded) -> Amount
+    ensures { λ r. ⌜ r .0 ≡ numberIn total ⌝ }
 {
     match total {
-        Rounded::To(n) => n,
-        Rounded::Past => 0,
+        Rounded::To(n) => Amount(n),
+        Rounded::Past => Amount(0),
     }
 }
 
@@ -47,18 +49,18 @@ fn passes_limit(up: Rounded, down: Rounded) -> bool
 }
 
 // What `down` has more than `up`, or 0.
-fn excess(up: u64, down: u64) -> u64
-    ensures { λ r. ⌜ r ≡ down - up ⌝ }
+fn excess(up: Amount, down: Amount) -> Amount
+    ensures { λ r. ⌜ r .0 ≡ down .0 - up .0 ⌝ }
 {
-    if down < up {
-        return 0;
+    if down.0 < up.0 {
+        return Amount(0);
     }
-    down - up
+    Amount(down.0 - up.0)
 }
 
-fn due_of(t: PerCurrency, up: u64, down: u64) -> MarksAnswer
-    requires { ⌜ down ≤ limit ⌝ }
-    ensures { λ r. ⌜ r ≡ dueWith (t .sums) up down ⌝ }
+fn due_of(t: PerCurrency, up: Amount, down: Amount) -> MarksAnswer
+    requires { ⌜ down .0 ≤ limit ⌝ }
+    ensures { λ r. ⌜ r ≡ dueWith (t .sums) (up .0) (down .0) ⌝ }
 {
     let due = Mils::of(false, excess(up, down));
     let a = t.sums[0];
@@ -77,7 +79,7 @@ fn answer_of(t: PerCurrency, rates: &[u32], haircuts: &[u32]) -> MarksAnswer
     if passes_limit(up, down) {
         return MarksAnswer::MarksRefused(16);
     }
-    due_of(t, number_in(up), number_in(down))
+    due_of(t, amount_in(up), amount_in(down))
 }
 
 // The answer of marks for bytes that are a sound book. The book is only read, and never copied.

@@ -1,7 +1,7 @@
 // 2, 18, 5 and 15 of marks, in this order: what is asked of the account, of the two price tables, and of the rates and
 // haircuts, whatever the book.
-use crate::prices::prices_above;
-use crate::prices::wrong_tables;
+use marking_prices::prices_above;
+use marking_prices::wrong_tables;
 ghost use mathlib.Core.Path.{_≡_};
 ghost use mathlib.Core.List.{[]};
 ghost use lib.ListN.{length};

@@ -1,7 +1,7 @@
 // "A record of 0 shares wants no price." 17: neither price table has a price for a record that wants one.
-use crate::prices::price_of;
 use book::position_at;
 use book::records_at;
+use marking_prices::price_of;
 use rules::Position;
 use sound_positions::account_of;
 use sound_positions::security_of;
@@ -15,8 +15,8 @@ ghost use Rattle.rules.specs.Bounds.{mostRecords};
 ghost use Rattle.rules.specs.Book.{accountOf};
 ghost use Rattle.rules.specs.Layout.{bookLength, bookOf};
 ghost use Rattle.rules.specs.Marks.{lacksPrice, markedOf};
-ghost use Rattle.marking.specs.Pricing.{Tables};
-ghost use Rattle.marking.specs.Summing.{priced};
+ghost use Rattle.marking_prices.specs.Pricing.{Tables};
+ghost use Rattle.marking_sums.specs.Summing.{priced};
 
 fn lacks_price(p: Position, intraday: &[u8], closing: &[u8]) -> bool
     requires { ⌜ Tables (now intraday) (now closing) ⌝ }
@@ -26,7 +26,8 @@ fn lacks_price(p: Position, intraday: &[u8], closing: &[u8]) -> bool
     let zero = q.is_zero();
     let s = security_of(p);
     let price = price_of(intraday, closing, s);
-    if price != 0 {
+    let found = price.0;
+    if found != 0 {
         return false;
     }
     !zero

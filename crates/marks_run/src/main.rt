@@ -16,7 +16,8 @@ fn print_money(m: Mils) {
     if m.is_negative() {
         print_text(b"-");
     }
-    io::print_decimal(STDOUT_FILENO, m.size());
+    let size = m.size();
+    io::print_decimal(STDOUT_FILENO, size.0);
 }
 
 fn print_marks(answer: MarksAnswer) {

@@ -18,7 +18,7 @@ use Rattle.rules.specs.declared.Book.{Book}
 use Rattle.laws.specs.SoundParts.{sound-parts}
 use Rattle.laws.specs.Rolling.{rolling, newNets}
 use Rattle.laws.specs.Blanks.{behind-records, records-few}
-use Rattle.netting.specs.Named.{Apart, apart-none}
+use Rattle.netting_account.specs.Named.{Apart, apart-none}
 use Rattle.netting.specs.Pairs.{pairNet, netsTo, nets-to-none, nets-to-more, nets-to-same, nets-to-fewer, pair-of, nets-pairs}
 
 -- what the walk gives: how many records open positions and nets make, one too many where they do not fit; where they fit, the table with both

@@ -1,9 +1,6 @@
 // The day roll up to its offsetting (document 01, "From trades to positions"): "charges are set to zero; today's nets become
 // positions due in two days; the list is emptied; the day goes up by one".
-mod account;
-mod named;
 mod nets;
-mod one_trade;
 mod steps;
 
 pub use nets::with_nets;

@@ -1,13 +1,13 @@
 // "Today's nets become positions due in two days": the position table with the nets behind the open positions.
 use crate::Netted;
-use crate::account::account_nets;
-use crate::named::named_accounts;
-use crate::named::next_named;
 use book::day_at;
 use book::entries_at;
 use book::positions_of;
 use book::records_at;
 use book::trades_of;
+use netting_account::account_nets;
+use netting_account::named_accounts;
+use netting_account::next_named;
 use rules::Position;
 ghost use mathlib.Core.Path.{_≡_};
 ghost use mathlib.Core.Bool.{true};

@@ -4,7 +4,9 @@ mod vectors;
 
 use exact::Rounded;
 use libc::STDOUT_FILENO;
+use units::Amount;
 use units::Mils;
+use units::Quantity;
 use units::Shares;
 
 // A position as far as parts go.
@@ -25,7 +27,8 @@ fn print_money(m: Mils) {
     if m.is_negative() {
         print_text(b"-");
     }
-    print_size(m.size());
+    let size = m.size();
+    print_size(size.0);
 }
 
 // A vector past the bounds of a record prints nothing, and so would differ from the expected output.
@@ -49,10 +52,10 @@ fn show_part(at: usize) {
     if q < k {
         return;
     }
-    let goes = units::part(
-        Mils::of(below == 1, m),
-        Shares::of(false, q),
-        Shares::of(false, k),
+    let goes = units_rounded::part(
+        Mils::of(below == 1, Amount(m)),
+        Shares::of(false, Quantity(q)),
+        Shares::of(false, Quantity(k)),
     );
     print_text(b"part ");
     print_money(goes);
@@ -66,28 +69,31 @@ fn print_taken(goes: Mils, stays: Left) {
     print_money(stays.money);
     print_text(b" ");
     let shares = stays.shares;
-    print_size(shares.size());
+    let size = shares.size();
+    print_size(size.0);
     print_text(b"\n");
 }
 
 // Takes k shares off a position and prints what goes and what stays.
-fn take(left: Left, k: u64) -> Left {
+fn take(left: Left, k: Quantity) -> Left {
     let m = left.money;
     let q = left.shares;
-    if k == 0 {
+    let shares = q.size();
+    let money = m.size();
+    if k.0 == 0 {
         return left;
     }
-    if q.size() < k {
+    if shares.0 < k.0 {
         return left;
     }
-    if 256_000_000 < q.size() {
+    if 256_000_000 < shares.0 {
         return left;
     }
-    if 2_560_000_000_000_000 < m.size() {
+    if 2_560_000_000_000_000 < money.0 {
         return left;
     }
     let taken = Shares::of(false, k);
-    let goes = units::part(m, q, taken);
+    let goes = units_rounded::part(m, q, taken);
     let stays = Left {
         money: m.minus(goes),
         shares: q.toward_zero(taken),
@@ -109,14 +115,14 @@ fn show_run(at: usize) {
         return;
     }
     let whole = Left {
-        money: Mils::of(vectors::RUNS[at] == 1, m),
-        shares: Shares::of(false, q),
+        money: Mils::of(vectors::RUNS[at] == 1, Amount(m)),
+        shares: Shares::of(false, Quantity(q)),
     };
-    let one = take(whole, vectors::RUNS[at + 3]);
-    let two = take(one, vectors::RUNS[at + 4]);
-    let three = take(two, vectors::RUNS[at + 5]);
-    let four = take(three, vectors::RUNS[at + 6]);
-    take(four, vectors::RUNS[at + 7]);
+    let one = take(whole, Quantity(vectors::RUNS[at + 3]));
+    let two = take(one, Quantity(vectors::RUNS[at + 4]));
+    let three = take(two, Quantity(vectors::RUNS[at + 5]));
+    let four = take(three, Quantity(vectors::RUNS[at + 6]));
+    take(four, Quantity(vectors::RUNS[at + 7]));
 }
 
 fn print_count(c: Rounded) {
@@ -143,9 +149,9 @@ fn show_sum(at: usize) {
         return;
     }
     print_text(b"favourable ");
-    print_count(units::favourable(Mils::of(false, sum), rate, haircut));
+    print_count(units_rounded::favourable(Mils::of(false, Amount(sum)), rate, haircut));
     print_text(b" unfavourable ");
-    print_count(units::unfavourable(Mils::of(true, sum), rate, haircut));
+    print_count(units_rounded::unfavourable(Mils::of(true, Amount(sum)), rate, haircut));
     print_text(b"\n");
 }
 

@@ -34,7 +34,7 @@ use Rattle.laws.specs.Lessened.{Less, less-without, less-security}
 use Rattle.laws.specs.Against.{inCurrency}
 use Rattle.laws.specs.OffsetKept.{Ready}
 use Rattle.laws.specs.StakeKept.{no-charge, size-within}
-use Rattle.offsetting.specs.Meeting.{Sized}
+use Rattle.offsetting_meetings.specs.Meeting.{Sized}
 use Rattle.offsetting.specs.Walk.{Walking, walking, meet, whole}
 
 -- ── one record ──

@@ -18,7 +18,7 @@ use Rattle.laws.specs.Numbers.{account-below}
 use Rattle.laws.specs.Rows.{row}
 use Rattle.laws.specs.DueDays.{parts-whole}
 use Rattle.laws.specs.OffsetKept.{olderOf, newlyOf, laterOf}
-use Rattle.offsetting.specs.Meeting.{MeetAsks}
+use Rattle.offsetting_meetings.specs.Meeting.{MeetAsks}
 use Rattle.offsetting.specs.Walk.{Walking, walking, meet, pass, whole, walk, WalkAsks, allMet}
 use Rattle.offsetting.specs.WalkIsRule.{walked-is}
 use Rattle.offsetting.specs.Holding.{Held, held-within, row-sized, row-currency, charge-within, held-meet, held-whole, held-start}

@@ -9,10 +9,10 @@ use Rattle.rules.specs.Book.{withCharges}
 use Rattle.rules.specs.declared.Book.{Book}
 use Rattle.laws.specs.Rows.{row}
 use Rattle.book.specs.Replacing.{withRows}
-use Rattle.offsetting.specs.Meeting.{MeetAsks, meetingOf}
+use Rattle.offsetting_meetings.specs.Meeting.{MeetAsks, meetingOf}
 use Rattle.offsetting.specs.Walk.{inUse, allMet}
 use Rattle.offsetting.specs.Turns.{chargeOf}
-use Rattle.offsetting.specs.declared.meetings.Met.{Met}
+use Rattle.offsetting_meetings.specs.declared.meetings.Met.{Met}
 
 -- ── one meeting ──
 

@@ -19,9 +19,9 @@ use Rattle.laws.specs.Cases.{by-test}
 use Rattle.laws.specs.Rows.{row, withoutBoth}
 use Rattle.laws.specs.Taking.{without-number}
 use Rattle.laws.specs.Facing.{facing}
-use Rattle.offsetting.specs.Meeting.{metOf, passedOf, meetingOf, meeting-met, meeting-passed}
+use Rattle.offsetting_meetings.specs.Meeting.{metOf, passedOf, meetingOf, meeting-met, meeting-passed}
 use Rattle.offsetting.specs.Walk.{Walking, walking, meet, whole}
-use Rattle.offsetting.specs.declared.meetings.Met.{Met}
+use Rattle.offsetting_meetings.specs.declared.meetings.Met.{Met}
 
 -- ── the place of a record's charge ──
 

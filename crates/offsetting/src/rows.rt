@@ -1,10 +1,10 @@
 // "The smaller remaining quantity is taken from both, each part's money is charged": one meeting, written where the two rows
 // and the charge stand.
-use crate::meetings::meeting;
 use book::charge_at;
 use book::position_at;
 use book::put_charge;
 use book::put_position;
+use offsetting_meetings::meeting;
 ghost use mathlib.Core.Path.{_≡_};
 ghost use lib.ListN.{length};
 ghost use Rattle.rules.specs.Layout.{bookLength, bookOf};

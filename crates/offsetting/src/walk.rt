@@ -1,14 +1,14 @@
 // "Due positions are offset": each newly due record, by ascending number, meets the older ones, by ascending number,
 // where the bytes stand.
 use crate::borders::due_before;
-use crate::meetings::same_pair;
-use crate::meetings::with_whole;
 use crate::rows::meet;
 use book::charge_at;
 use book::codes_of;
 use book::day_at;
 use book::position_at;
 use book::put_charge;
+use offsetting_meetings::same_pair;
+use offsetting_meetings::with_whole;
 use parts::pack;
 use parts::place_of;
 ghost use mathlib.Core.Path.{_≡_};

@@ -7,7 +7,7 @@ ghost use mathlib.Core.Path.{_≡_};
 ghost use Prim.Native.Nat.{_+_, _≤_, _<_, _^_};
 ghost use lib.IntN.{natAbs, _+ℤ_};
 ghost use Rattle.units.specs.Units.{sharesOf, milsOf};
-ghost use Rattle.units.specs.PartLaws.{PartAsks};
+ghost use Rattle.units_rounded.specs.PartLaws.{PartAsks};
 ghost use Rattle.rules.specs.Book.{quantityOf, moneyOf};
 ghost use Rattle.rules.specs.Parts.{partMoney, without};
 
@@ -18,7 +18,7 @@ fn part_of(p: Position, k: Shares) -> Mils
 {
     let m = p.money;
     let q = p.quantity;
-    units::part(m, q, k)
+    units_rounded::part(m, q, k)
 }
 
 // The record without k of its shares and their money.

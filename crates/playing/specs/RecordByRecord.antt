@@ -22,11 +22,11 @@ use Rattle.history.specs.Histories.{made}
 use Rattle.history.specs.Lent.{AllFit}
 use Rattle.history.specs.Steps.{empty-good}
 use Rattle.history.specs.FileHistory.{file-well}
-use Rattle.callfile.specs.Walking.{nextOf}
-use Rattle.playing.specs.Steps.{nextIn, leftAt, left-end, left-call, left-none, isCreate, never, next-more}
-use Rattle.playing.specs.Playing.{textOf, answersLeft, Holds, holds-of, holds-long, number-is, figure-is, after-reads, after-holds, fit-call}
+use Rattle.callfile_format.specs.Walking.{nextOf}
+use Rattle.playing_records.specs.Steps.{nextIn, leftAt, left-end, left-call, left-none, isCreate, never, next-more}
+use Rattle.playing_records.specs.Playing.{textOf, answersLeft, Holds, holds-of, holds-long, number-is, figure-is, after-reads, after-holds, fit-call}
 use Rattle.playing.specs.RecordCalls.{Called, called, noMore, answerOf, goingOn, recordCalls}
-use Rattle.playing.specs.First.{isCall, no-first, behind-create, other-says, none-first, create-first, unread, begun}
+use Rattle.playing_records.specs.First.{isCall, no-first, behind-create, other-says, none-first, create-first, unread, begun}
 
 -- ── one call ──
 

@@ -25,9 +25,9 @@ use Rattle.history.specs.Lent.{AllFit}
 use Rattle.history.specs.Steps.{empty-good}
 use Rattle.history.specs.FileHistory.{file-well}
 use Rattle.house.specs.Lent.{created}
-use Rattle.playing.specs.Steps.{leftAt}
-use Rattle.playing.specs.Playing.{textOf, nine, nine-long, textLeft, Ready, endAnswers, endBook, Holds, holds-of}
-use Rattle.playing.specs.First.{create-fits, create-first, unread, begun, text-long}
+use Rattle.playing_records.specs.Steps.{leftAt}
+use Rattle.playing_records.specs.Playing.{textOf, nine, nine-long, textLeft, Ready, endAnswers, endBook, Holds, holds-of}
+use Rattle.playing_records.specs.First.{create-fits, create-first, unread, begun, text-long}
 
 -- ── the records that were played, by the ways that the code takes ──
 

@@ -1,15 +1,15 @@
 // The whole call file as one call (document 01, "Call file and sheet"): every record in order, on the book that the
 // create at its front makes. Soundness is not tested: the create makes a sound book, and every call keeps it.
-use crate::again::apply_again;
-use crate::again::refused_behind;
-use crate::applying::put_answer;
-use crate::walking::count_answers;
-use crate::walking::is_none;
-use crate::walking::next_place;
 use book::BOOK_BYTES;
-use callfile::other_version;
-use callfile::record_at;
+use callfile_format::other_version;
+use callfile_format::record_at;
 use house::create;
+use playing_records::apply_again;
+use playing_records::count_answers;
+use playing_records::is_none;
+use playing_records::next_place;
+use playing_records::put_answer;
+use playing_records::refused_behind;
 ghost use mathlib.Core.Path.{_≡_};
 ghost use Prim.Native.Nat.{_≤_};
 ghost use lib.ListN.{length};
@@ -17,8 +17,8 @@ ghost use Rattle.fields.specs.Field.{stored};
 ghost use Rattle.rules.specs.Layout.{bookLength, bookOf, bytesOf};
 ghost use Rattle.rules.specs.CallFile.{fileOf, answersOf, bytesLeft, wholeAnswer, wholeSize, wholeAnswers, wholeBytes};
 ghost use Rattle.history.specs.Histories.{made};
-ghost use Rattle.playing.specs.Steps.{leftAt};
-ghost use Rattle.playing.specs.Playing.{textLeft, Ready};
+ghost use Rattle.playing_records.specs.Steps.{leftAt};
+ghost use Rattle.playing_records.specs.Playing.{textLeft, Ready};
 
 // The number of the answer, and how many bytes the answers of the records take.
 pub struct Played {

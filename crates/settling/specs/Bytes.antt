@@ -14,15 +14,11 @@ use Rattle.laws.specs.Rows.{row}
 use Rattle.laws.specs.Walk.{owes, wants, walked}
 use Rattle.laws.specs.SoundRun.{sound-runnable}
 use Rattle.laws.specs.Shaped.{Shaped}
-use Rattle.book.specs.Views.{codes-long, positions-long, holdings-long, charges-long, trades-long}
+use Rattle.laws.specs.SoundBytes.{shaped}
 use Rattle.settling.specs.Charges.{chargedParts, asks-same}
 use Rattle.settling.specs.Loops.{tablesOf, walking, WalkAsks, Outer, Inner, outer-start, inner-start, inner-next, outer-spent, outer-next, outer-end, left-by-label}
 use Rattle.settling.specs.Turns.{Turn, inner-met, less-owed, within-left, charges-ask, holds-enough, holds-room}
 use Rattle.settling.specs.Meetings.{MeetAsks, metIn, Beside, beside-start, beside-met}
-
-pub shaped : (bs : List ℕ) → Shaped (bookOf bs)
-shaped bs =
-    record { currency = codes-long bs; positions = positions-long bs; holdings = holdings-long bs; charges = charges-long bs; trades = trades-long bs }
 
 -- the book that the walk began with; its day and its count of records, as the code has them
 pub record Started (b : Book) (s whole d n : ℕ) : Type 0 where

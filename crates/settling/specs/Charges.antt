@@ -8,7 +8,7 @@ use lib.ListN.{length, getD, set}
 use lib.Seq.{getD-set-same, getD-set-other, set-out}
 use lib.IntN.{ℤ, pos, natAbs, _+ℤ_}
 use Rattle.units.specs.Units.{milsOf, mils, mostMils}
-use Rattle.units.specs.PartLaws.{PartAsks}
+use Rattle.units_rounded.specs.PartLaws.{PartAsks}
 use Rattle.units.specs.declared.Mils.{Mils}
 use Rattle.rules.specs.Bounds.{mostAtStake}
 use Rattle.rules.specs.Book.{quantityOf, moneyOf, accountOf, securityOf, chargeAt, charged}

@@ -1,9 +1,6 @@
--- What the code of the settlement run is proved with: what records owe and want, charges, counting, what accounts hold, the walk
--- and whom it passes over, the walk over the bytes with its meetings, how it ends, and a run that moves nothing.
-pub mod Amounts
+-- What the code of the settlement run is proved with: charges, the walk and whom it passes over, the walk over the bytes with its meetings, how
+-- it ends, and a run that moves nothing.
 pub mod Charges
-pub mod Counting
-pub mod Holders
 pub mod Passing
 pub mod Steps
 pub mod Loops

@@ -11,7 +11,7 @@ use lib.Seq.{getD-take}
 use lib.IntN.{pos, natAbs}
 use borrow.Author.Tests.{leb-true, le-leb}
 use Rattle.units.specs.Units.{milsOf, mils, mostShares, mostMils}
-use Rattle.units.specs.PartLaws.{PartAsks}
+use Rattle.units_rounded.specs.PartLaws.{PartAsks}
 use Rattle.units.specs.declared.Mils.{Mils}
 use Rattle.rules.specs.Words.{all}
 use Rattle.rules.specs.Bounds.{securities, currencies, mostHeld, mostAtStake}

@@ -6,7 +6,7 @@ use Prim.Native.Nat.{ℕ, _+_, _-_, min, _<_, _≤_, _^_}
 use native.Mathlib.Omega.{arith}
 use lib.ListN.{getD, set, take, length-take}
 use lib.Seq.{getD-set-same, getD-set-other, take-set-lt}
-use Rattle.units.specs.PartLaws.{PartAsks}
+use Rattle.units_rounded.specs.PartLaws.{PartAsks}
 use Rattle.units.specs.declared.Mils.{Mils}
 use Rattle.rules.specs.Book.{quantityOf, moneyOf, accountOf, securityOf, currencyOf, noPosition, holdingAt}
 use Rattle.rules.specs.Parts.{without, chargedTo, chargedBoth}

@@ -1,11 +1,8 @@
 // The settlement run (document 01, "Settlement run" and "Refusal numbers"): what a sound book answers, and the book that
 // an accepted run leaves.
-mod counts;
 mod moving;
 mod run;
-mod sides;
 mod walk;
 
-pub use counts::deliverable_of;
 pub use run::run_refusal;
 pub use run::with_run;

@@ -1,6 +1,5 @@
 // A meeting where the bytes stand (document 01, "Settlement run"): the part is taken from both records, holdings move and
 // each part's money is charged.
-use crate::sides::holding_place;
 use book::charge_at;
 use book::codes_of;
 use book::holding_at;
@@ -12,6 +11,8 @@ use parts::place_of;
 use parts::rest_of;
 use parts::with_part;
 use rules::Position;
+use settling_counts::holding_place;
+use units::Quantity;
 use units::Shares;
 ghost use mathlib.Core.Path.{_≡_};
 ghost use Prim.Native.Nat.{_+_, _<_, _≤_, _^_};
@@ -25,13 +26,13 @@ ghost use Rattle.settling.specs.Charges.{ChargeAsks, chargedParts};
 ghost use Rattle.settling.specs.Meetings.{MeetAsks, metIn};
 
 // k shares go from one holding to another.
-fn move_shares(b: &mut [u8], from: usize, to: usize, k: u64)
-    requires { ⌜ (length (now b) ≡ bookLength) × (from < 2048) × (to < 2048) × (k ≤ getD (bookOf (now b) .holdings) from 0) × (getD (bookOf (now b) .holdings) to 0 + k < 2 ^ 64) ⌝ }
-    ensures { λ _. ⌜ bookOf (now (b .exit)) ≡ withHoldings (bookOf (now (b .entry))) (moved (bookOf (now (b .entry)) .holdings) from to k) ⌝ }
+fn move_shares(b: &mut [u8], from: usize, to: usize, k: Quantity)
+    requires { ⌜ (length (now b) ≡ bookLength) × (from < 2048) × (to < 2048) × (k .0 ≤ getD (bookOf (now b) .holdings) from 0) × (getD (bookOf (now b) .holdings) to 0 + k .0 < 2 ^ 64) ⌝ }
+    ensures { λ _. ⌜ bookOf (now (b .exit)) ≡ withHoldings (bookOf (now (b .entry))) (moved (bookOf (now (b .entry)) .holdings) from to (k .0)) ⌝ }
 {
-    let less = holding_at(b, from) - k;
+    let less = holding_at(b, from) - k.0;
     put_holding(b, from, less);
-    let more = holding_at(b, to) + k;
+    let more = holding_at(b, to) + k.0;
     put_holding(b, to, more);
 }
 
@@ -50,9 +51,9 @@ fn charge_parts(b: &mut [u8], giver: Position, receiver: Position, part: Shares)
 }
 
 // The record in row g gives `size` shares to the one in row r.
-pub fn meet(b: &mut [u8], security: u8, g: usize, r: usize, size: u64)
-    requires { ⌜ (length (now b) ≡ bookLength) × MeetAsks (bookOf (now b)) security g r size ⌝ }
-    ensures { λ _. ⌜ bookOf (now (b .exit)) ≡ metIn (bookOf (now (b .entry))) security g r size ⌝ }
+pub fn meet(b: &mut [u8], security: u8, g: usize, r: usize, size: Quantity)
+    requires { ⌜ (length (now b) ≡ bookLength) × MeetAsks (bookOf (now b)) security g r (size .0) ⌝ }
+    ensures { λ _. ⌜ bookOf (now (b .exit)) ≡ metIn (bookOf (now (b .entry))) security g r (size .0) ⌝ }
 {
     let giver = position_at(b, g);
     let receiver = position_at(b, r);

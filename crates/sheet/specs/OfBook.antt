@@ -18,7 +18,7 @@ use Rattle.rules.specs.declared.Book.{Book}
 use Rattle.laws.specs.Cases.{true-false}
 use Rattle.laws.specs.SoundRun.{sound-runnable}
 use Rattle.sheet_laws.specs.BookLeft.{isThere, file-left}
-use Rattle.sheet.specs.Whole.{sheetText, Printable}
+use Rattle.sheet.specs.Whole.{bookIf, sheetText, Printable}
 use Rattle.sheet.specs.OfFile.{exists-is, book-is, printable-file, sheet-is-file}
 
 -- ── the sheet from the bytes of the answers and of the book ──
@@ -46,12 +46,13 @@ module _ (file rest old : List ℕ) (count : ℕ) (bytes : Bytes file) (short : 
   few-records none e h = true-false h refl
   few-records (some m) e h = subst (λ (k : Book). k .records ≤ mostRecords) (sym (same-book m e)) (sound-runnable m (file-left file bytes m e .is-sound) .few)
 
+  there : bookIf (existsIn (answersOf file ++ rest)) (leftIn old file) ≡ fileOf file .book
+  there = book-is (existsIn (answersOf file ++ rest)) (leftIn old file) (fileOf file .book) (exists-is file rest) same-book
+
   pub bytes-printable : Printable count (answersOf file ++ rest) (existsIn (answersOf file ++ rest)) (leftIn old file)
   bytes-printable =
-      printable-file file rest count (existsIn (answersOf file ++ rest)) (leftIn old file) short n
+      printable-file file rest count (existsIn (answersOf file ++ rest)) (leftIn old file) short n bytes there
       (λ e. few-records (fileOf file .book) refl (sym (exists-is file rest) ∙ e))
 
   pub bytes-sheet : sheetText count (answersOf file ++ rest) (existsIn (answersOf file ++ rest)) (leftIn old file) ≡ sheetOf file
-  bytes-sheet =
-      sheet-is-file file rest count (existsIn (answersOf file ++ rest)) (leftIn old file) short n
-      (book-is (existsIn (answersOf file ++ rest)) (leftIn old file) (fileOf file .book) (exists-is file rest) same-book)
+  bytes-sheet = sheet-is-file file rest count (existsIn (answersOf file ++ rest)) (leftIn old file) short n there

@@ -8,7 +8,7 @@ use Prim.Native.Nat.{ℕ, suc, _*_, _≤_}
 use native.Mathlib.Omega.{arith}
 use lib.Dec.{eqb}
 use lib.ListN.{length, drop, length-append}
-use Rattle.fields.specs.Field.{field, digits}
+use Rattle.fields.specs.Field.{Bytes, field, digits}
 use Rattle.rules.specs.Words.{all, each}
 use Rattle.rules.specs.Bounds.{mostRecords}
 use Rattle.rules.specs.Book.{emptyBook}
@@ -22,6 +22,7 @@ use Rattle.laws.specs.Cases.{true-false, cond-yes, cond-no}
 use Rattle.sheet_laws.specs.AnswersFew.{file-few}
 use Rattle.sheet_laws.specs.AnswersFit.{file-fits}
 use Rattle.sheet_laws.specs.BookLeft.{isThere}
+use Rattle.sheet_laws.specs.Bounded.{sheet-bytes}
 use Rattle.sheet.specs.Answers.{code, length-code, answersIn, placeFits, places-fit, answers-back}
 use Rattle.sheet.specs.Whole.{bookIf, linesAbove, sheetLines, sheetText, Printable}
 
@@ -119,20 +120,21 @@ book-is exists k (some m) e h = cond-yes (some k) none e ∙ ap some (h m refl)
 -- ── the sheet of the file ──
 
 module _ (file rest : List ℕ) (count : ℕ) (exists : Bool) (k : Book) (short : tooLong file ≡ false) (n : count ≡ length (fileOf file .answers)) where
-  pub printable-file : (exists ≡ true → k .records ≤ mostRecords) → Printable count (answersOf file ++ rest) exists k
-  printable-file few =
-      record {
-        within = omega (arith, length-append (answersOf file) rest, length-bytes file);
-        few = omega (arith, file-few file short);
-        places = ap (all placeFits) (answers-are file rest count short n) ∙ places-fit (fileOf file .answers) (file-fits file short);
-        records = few;
-      }
-
   pub sheet-is-file : bookIf exists k ≡ fileOf file .book → sheetText count (answersOf file ++ rest) exists k ≡ sheetOf file
   unfolding sheetText sheetLines linesAbove sheetOf linesOf
   sheet-is-file e =
       ap₂ (λ (l : List Answer) (b : Option Book). each textOf (ended (answerLines 0 l ++ bookLines b))) (answers-are file rest count short n) e
       ∙ ap (each textOf) (sym (cond-no refusedSheet (linesOf (fileOf file)) short))
+
+  pub printable-file : Bytes file → bookIf exists k ≡ fileOf file .book → (exists ≡ true → k .records ≤ mostRecords) → Printable count (answersOf file ++ rest) exists k
+  printable-file bytes e few =
+      record {
+        within = omega (arith, length-append (answersOf file) rest, length-bytes file);
+        few = omega (arith, file-few file short);
+        places = ap (all placeFits) (answers-are file rest count short n) ∙ places-fit (fileOf file .answers) (file-fits file short);
+        records = few;
+        short = omega (arith, ap length (sheet-is-file e), sheet-bytes file bytes);
+      }
 
 pub refused-is-file : (file : List ℕ) → tooLong file ≡ true → each textOf refusedSheet ≡ sheetOf file
 unfolding sheetOf

@@ -10,15 +10,15 @@ use lib.ListN.{length, take, drop, length-append}
 use Rattle.fields.specs.Field.{stored}
 use Rattle.fields.specs.FieldLaws.{stored-eq}
 use Rattle.rules.specs.Words.{all, each}
-use Rattle.rules.specs.Bounds.{mostRecords}
+use Rattle.rules.specs.Bounds.{mostRecords, mostTally}
 use Rattle.rules.specs.Book.{openOf}
 use Rattle.rules.specs.Sheet.{textOf, openLine, answerLines, bookLines, ended}
 use Rattle.rules.specs.declared.Book.{Book}
 use Rattle.rules.specs.declared.Line.{Line}
+use Rattle.rules.specs.declared.Tally.{Tally}
 use Rattle.rules.specs.declared.Line.the-variants.{Day, End}
 use Rattle.sheet_laws.specs.BookWidths.{few-book-lines}
-use Rattle.sheet.specs.declared.Reach.{Reach}
-use Rattle.sheet.specs.Written.{Ready, Wrote, start, textsOf, putIf, place-of, lines-of}
+use Rattle.sheet.specs.Written.{Ready, Wrote, start, textsOf, putIf, bytes-of, lines-of}
 use Rattle.sheet.specs.Answers.{answersIn, placeFits, few-lines}
 use Rattle.sheet.specs.BookLines.{entryLines, charges-are}
 
@@ -38,12 +38,13 @@ unfoldable pub sheetText : ℕ → List ℕ → Bool → Book → List ℕ
 sheetText count answers exists k = each textOf (sheetLines count answers exists k)
 
 -- A file of 65,535 bytes has at most 21,846 answers (65,534 bytes behind the version, at least 3 a record); a 19's place is in the file.
--- Where no book exists, k is anything.
+-- Where no book exists, k is anything. The sheet is shorter than the tally's bound.
 pub record Printable (count : ℕ) (answers : List ℕ) (exists : Bool) (k : Book) : Type 0 where
   pub within : count * 9 ≤ length answers
   pub few : count ≤ 21_846
   pub places : all placeFits (answersIn count answers) ≡ true
   pub records : exists ≡ true → k .records ≤ mostRecords
+  pub short : length (sheetText count answers exists k) ≤ mostTally
 
 -- ── the book's lines ──
 
@@ -85,7 +86,7 @@ sheet-parts count answers exists k n e =
     ∙ append-assoc (answerLines 0 (answersIn count answers)) (bookLines (bookIf exists k)) (End n ∷ [])
 
 -- the last line does not count itself
-pub lines-above : (w : Bool) (count : ℕ) (answers : List ℕ) (exists : Bool) (k : Book) (bs cs ds : List ℕ) (s t : Reach)
+pub lines-above : (w : Bool) (count : ℕ) (answers : List ℕ) (exists : Bool) (k : Book) (bs cs ds : List ℕ) (s t : Tally)
     → Wrote w bs start (answerLines 0 (answersIn count answers)) cs s → Wrote w cs s (bookLines (bookIf exists k)) ds t
     → t .lines ≡ length (linesAbove count answers exists k)
 lines-above w count answers exists k bs cs ds s t one two =
@@ -101,7 +102,7 @@ ready-sheet w n count answers exists k h fits =
     let e = sheet-is count answers exists k in
     record {
       fits = λ t. let f = fits t in omega arith;
-      narrow = λ t. omega arith;
+      short = omega (arith, h .short);
       few =
           omega (
             arith,
@@ -117,15 +118,15 @@ ready-sheet w n count answers exists k h fits =
 
 -- ── what the two public functions make of it ──
 
-pub width-is : (w : Bool) (count : ℕ) (answers : List ℕ) (exists : Bool) (k : Book) (bs cs : List ℕ) (r : Reach)
-    → Wrote w bs start (sheetLines count answers exists k) cs r → r .place ≡ length (sheetText count answers exists k)
+pub width-is : (w : Bool) (count : ℕ) (answers : List ℕ) (exists : Bool) (k : Book) (bs cs : List ℕ) (r : Tally)
+    → Wrote w bs start (sheetLines count answers exists k) cs r → r .bytes ≡ length (sheetText count answers exists k)
 unfolding sheetText
-width-is w count answers exists k bs cs r h = let e = place-of r start (sheetLines count answers exists k) (h .reach) in omega arith
+width-is w count answers exists k bs cs r h = let e = bytes-of r start (sheetLines count answers exists k) (h .reach) in omega arith
 
 pub front-is : (bs cs xs : List ℕ) → length xs ≤ length bs → cs ≡ stored bs 0 xs → cs ≡ xs ++ drop (length xs) bs
 front-is bs cs xs h e = e ∙ stored-eq bs 0 xs (omega arith) ∙ ap (λ (n : ℕ). xs ++ drop n bs) (zero-add (length xs))
 
-pub bytes-are : (count : ℕ) (answers : List ℕ) (exists : Bool) (k : Book) (bs cs : List ℕ) (r : Reach)
+pub bytes-are : (count : ℕ) (answers : List ℕ) (exists : Bool) (k : Book) (bs cs : List ℕ) (r : Tally)
     → length (sheetText count answers exists k) ≤ length bs → Wrote true bs start (sheetLines count answers exists k) cs r
     → cs ≡ sheetText count answers exists k ++ drop (length (sheetText count answers exists k)) bs
 unfolding sheetText putIf

@@ -1,5 +1,6 @@
 // The whole sheet (document 01, "Call file and sheet"), of the answers of a file and the book that it leaves: how long it is, and its
-// writing into a lent buffer. Both are one walk over the lines, which writes them or only measures them.
+// writing into a lent buffer. Both are one walk over the lines, which writes them or only counts
+// them; the tally says how far it has come.
 mod answers;
 mod charges;
 mod one;
@@ -11,9 +12,3 @@ pub use refused::put_refused;
 pub use refused::refused_width;
 pub use whole::put_sheet;
 pub use whole::sheet_width;
-
-// How far the sheet has come: the place behind its last line, and how many lines it has.
-pub(crate) struct Reach {
-    pub place: usize,
-    pub lines: u32,
-}

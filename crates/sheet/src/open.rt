@@ -1,8 +1,8 @@
 // "P number account security quantity money", by number: the position table is in the order of its numbers.
-use crate::Reach;
 use crate::one::put_one;
 use rules::Line;
 use rules::Position;
+use rules::Tally;
 use sound_positions::account_of;
 use sound_positions::security_of;
 ghost use mathlib.Core.Path.{_≡_};
@@ -29,19 +29,19 @@ fn open_line(p: Position) -> Line
 pub(crate) fn put_open(
     buffer: &mut [u8],
     write: bool,
-    r: Reach,
+    t: Tally,
     positions: [Position; 1024],
     records: usize,
-) -> Reach
-    requires { ⌜ (records ≤ mostRecords) × Ready write (length (now buffer)) r (map openLine (take records positions)) ⌝ }
-    ensures { λ y. ⌜ Wrote write (now (buffer .entry)) r (map openLine (take records positions)) (now (buffer .exit)) y ⌝ }
+) -> Tally
+    requires { ⌜ (records ≤ mostRecords) × Ready write (length (now buffer)) t (map openLine (take records positions)) ⌝ }
+    ensures { λ y. ⌜ Wrote write (now (buffer .entry)) t (map openLine (take records positions)) (now (buffer .exit)) y ⌝ }
 {
-    let mut reach = r;
+    let mut tally = t;
     let mut i: usize = 0;
     while i < records {
         let p = positions[i];
-        reach = put_one(buffer, write, reach, open_line(p));
+        tally = put_one(buffer, write, tally, open_line(p));
         i += 1;
     }
-    reach
+    tally
 }

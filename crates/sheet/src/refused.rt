@@ -1,6 +1,7 @@
 // "A file refused by 18 gives R 0 18 and E 1."
-use lines::put_line;
+use crate::one::put_one;
 use rules::Line;
+use rules::Tally;
 ghost use mathlib.Core.Path.{_≡_};
 ghost use mathlib.Core.List.{_++_};
 ghost use Prim.Native.Nat.{_≤_};
@@ -21,6 +22,8 @@ pub fn put_refused(buffer: &mut [u8]) -> usize
     ensures { λ r. ⌜ (r ≡ length (each textOf refusedSheet))
         × (now (buffer .exit) ≡ each textOf refusedSheet ++ drop (length (each textOf refusedSheet)) (now (buffer .entry))) ⌝ }
 {
-    let place = put_line(buffer, 0, Line::Refusal(0, 18));
-    put_line(buffer, place, Line::End(1))
+    let begin = Tally { lines: 0, bytes: 0 };
+    let first = put_one(buffer, true, begin, Line::Refusal(0, 18));
+    let last = put_one(buffer, true, first, Line::End(1));
+    last.bytes as usize
 }

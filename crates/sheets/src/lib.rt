@@ -1,11 +1,11 @@
 // The whole sheet as one call (document 01, "Call file and sheet"): a file is played on a room of its own, so that
 // nothing is altered where the sheet does not fit.
 use book::BOOK_BYTES;
-use book::load;
-use book::store;
+use book_whole::load;
+use book_whole::store;
 use fields::get;
-use playing::count_answers;
 use playing::play_records;
+use playing_records::count_answers;
 use rules::Book;
 use sheet::put_refused;
 use sheet::put_sheet;
@@ -22,7 +22,7 @@ ghost use Rattle.rules.specs.Bounds.{mostFile};
 ghost use Rattle.rules.specs.Layout.{bookLength, bytesOf};
 ghost use Rattle.rules.specs.Sheet.{textOf, refusedSheet, sheetOf, sheetAnswer, sheetSize, sheetBytes, sheetBook};
 ghost use Rattle.sheet_laws.specs.Bounded.{mostBytes};
-ghost use Rattle.sheets.specs.Sheets.{Printed, Written, Room};
+ghost use Rattle.sheets.specs.Sheets.{Printed, Written, Room, roomForAnswers};
 
 // The number of the answer, and how long the sheet is.
 pub struct SheetAnswer {
@@ -88,15 +88,29 @@ fn put_played(
     }
 }
 
-// The sheet of a file of at most 65,535 bytes: these have at most 21,846 answers of 9 bytes.
+// A file is played in a lent room, and its sheet written.
+fn sheet_in(
+    room: &mut [u8],
+    answers: &mut [u8],
+    file: &[u8],
+    book: &mut [u8],
+    buffer: &mut [u8],
+) -> SheetAnswer
+    requires { ⌜ (length (now room) ≡ bookLength) × (length (now answers) ≡ roomForAnswers) × (length (now book) ≡ bookLength) × (length (now file) ≤ mostFile) ⌝ }
+    ensures { λ r. ⌜ Written (now (file .entry)) (now (book .entry)) (now (buffer .entry)) (r .number) (r .size) (now (book .exit)) (now (buffer .exit)) ⌝ }
+{
+    play_records(room, file, answers);
+    put_played(room, answers, file, book, buffer)
+}
+
+// The sheet of a file of at most 65,535 bytes: these have at most 21,846 answers of 9 bytes. (A big array is lent once: each loan of it by its length costs.)
 fn played_sheet(book: &mut [u8], file: &[u8], buffer: &mut [u8]) -> SheetAnswer
     requires { ⌜ (length (now book) ≡ bookLength) × (length (now file) ≤ mostFile) ⌝ }
     ensures { λ r. ⌜ Written (now (file .entry)) (now (book .entry)) (now (buffer .entry)) (r .number) (r .size) (now (book .exit)) (now (buffer .exit)) ⌝ }
 {
     let mut room = [0u8; 42278];
     let mut answers = [0u8; 196614];
-    play_records(&mut room, file, &mut answers);
-    put_played(&room, &answers, file, book, buffer)
+    sheet_in(&mut room, &mut answers, file, book, buffer)
 }
 
 // 18: the book has another length, or the sheet does not fit. Then nothing is altered.

@@ -2,31 +2,29 @@
 use mathlib.Core.Path.{_≡_, refl, sym, ap, _∙_}
 use mathlib.Core.Bool.{Bool, true, not, _&&_}
 use mathlib.Core.List.{List, [], _∷_}
-use Prim.Native.Nat.{ℕ, zero, suc, _+_, _<_}
-use native.Mathlib.Nat.{le-of-suc-le-suc}
+use Prim.Native.Nat.{ℕ, _+_}
 use native.Mathlib.Omega.{arith}
 use lib.Dec.{eqb, ltb}
-use lib.ListN.{length, getD}
-use lib.IntN.{ℤ}
 use borrow.Author.Tests.{eq-eqb, ne-eqb, leb-true, leb-false, ltb-true}
-use Rattle.rules.specs.Words.{all, keep, from}
+use Rattle.units.specs.declared.Shares.{Shares}
+use Rattle.rules.specs.Words.{all, keep}
 use Rattle.rules.specs.Bounds.{securities, everySecurity}
 use Rattle.rules.specs.Book.{dueOf, isZero, openOf}
 use Rattle.rules.specs.Sound.{balanced, isDue, dueFits, dueBalanced}
 use Rattle.rules.specs.declared.Position.{Position}
 use Rattle.rules.specs.declared.Book.{Book}
 use Rattle.laws.specs.Cases.{by-test}
-use Rattle.laws.specs.All.{all-cons, securities-below, from-length}
+use Rattle.laws.specs.All.{all-cons, securities-below}
 use Rattle.laws.specs.Keeping.{keep-none, keep-yes, keep-no}
 use Rattle.sound_positions.specs.Summing.{sumAt, sumOf, Summed}
 
 -- ── behind the pass ──
 
 -- the sum of a security is zero
-abbrev pub zeroAt : List ℤ → ℕ → Bool
+abbrev pub zeroAt : List Shares → ℕ → Bool
 zeroAt sums s = isZero (sumAt sums s)
 
-zeros : (ps : List Position) (sums : List ℤ) (l : List ℕ) → Summed ps sums → all (λ s. ltb s securities) l ≡ true
+zeros : (ps : List Position) (sums : List Shares) (l : List ℕ) → Summed ps sums → all (λ s. ltb s securities) l ≡ true
     → all (zeroAt sums) l ≡ all (λ s. isZero (sumOf s ps)) l
 unfolding all
 zeros ps sums [] h a = refl
@@ -34,7 +32,7 @@ zeros ps sums (s ∷ l) h a =
     let b = all-cons (λ s. ltb s securities) s l a in
     rw (h .sum s (ltb-true s securities (b .0)), zeros ps sums l h (b .1))
 
-pub balanced-sums : (ps : List Position) (sums : List ℤ) → Summed ps sums → all (zeroAt sums) everySecurity ≡ balanced ps
+pub balanced-sums : (ps : List Position) (sums : List Shares) → Summed ps sums → all (zeroAt sums) everySecurity ≡ balanced ps
 unfolding balanced
 balanced-sums ps sums h = zeros ps sums everySecurity h securities-below
 
@@ -65,19 +63,3 @@ pub due-by : (k : Book) → all (dueFits (k .day)) (openOf k) ≡ true
     → balanced (keep (isDue (k .day)) (openOf k)) && balanced (keep (isLater (k .day)) (openOf k)) ≡ dueBalanced k
 unfolding dueBalanced
 due-by k a = ap (λ (ps : List Position). balanced (keep (isDue (k .day)) (openOf k)) && balanced ps) (keep-later (k .day) (openOf k) a)
-
--- ── a loop over the securities ──
-
-from-at : (i n j : ℕ) → j < n → getD (from i n) j 0 ≡ i + j
-unfolding from
-from-at i zero j h = absurd (omega arith)
-from-at i (suc n) zero h = omega arith
-from-at i (suc n) (suc j) h = omega (arith, from-at (suc i) n j (le-of-suc-le-suc h))
-
-pub securities-length : length everySecurity ≡ securities
-unfolding everySecurity
-securities-length = from-length 0 securities
-
-pub security-at : (s : ℕ) → s < securities → getD everySecurity s 0 ≡ s
-unfolding everySecurity
-security-at s h = omega (arith, from-at 0 securities s h)

@@ -8,13 +8,13 @@ pub(crate) fn size_fits(p: Position) -> bool
 {
     let quantity = p.quantity;
     let q = quantity.size();
-    if q > 256_000_000 {
+    if q.0 > 256_000_000 {
         return false;
     }
     let money = p.money;
     let m = money.size();
-    if m > 2_560_000_000_000_000 {
+    if m.0 > 2_560_000_000_000_000 {
         return false;
     }
-    q != 0 || m != 0
+    q.0 != 0 || m.0 != 0
 }

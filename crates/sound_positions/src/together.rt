@@ -1,12 +1,16 @@
 // What is asked of records together: "an account's due records in one security have one sign", and "per security,
 // quantities due by the day total zero, as do those due on day + 1". One walk over the records finds out both.
-use crate::balance::add_by_day;
 use crate::balance::sums_zero;
+use crate::balance::with_quantity;
+use crate::due::is_due;
+use crate::number::security_of;
 use crate::signs::note_sign;
 use crate::signs::sign_fits;
 use book::day_at;
 use book::position_at;
 use book::records_at;
+use units::Shares;
+use units::Whole;
 ghost use mathlib.Core.Path.{_≡_};
 ghost use mathlib.Core.Bool.{true, _&&_};
 ghost use Prim.Native.Nat.{_≤_};
@@ -26,8 +30,9 @@ pub fn together_fit(b: &[u8]) -> bool
     let day = day_at(b);
     let n = records_at(b) as usize;
     let mut seen: [u8; 2048] = [0; 2048];
-    let mut today: [i64; 32] = [0; 32];
-    let mut later: [i64; 32] = [0; 32];
+    let none = Shares(Whole(0));
+    let mut today: [Shares; 32] = [none; 32];
+    let mut later: [Shares; 32] = [none; 32];
     let mut i: usize = 0;
     while i < n {
         let p = position_at(b, i);
@@ -35,11 +40,19 @@ pub fn together_fit(b: &[u8]) -> bool
             return false;
         }
         note_sign(&mut seen, day, p);
-        add_by_day(&mut today, &mut later, day, p);
+        // Its quantity counts among those due by the day, or among those due later.
+        let s = security_of(p);
+        if is_due(day, p) {
+            let sum = today[s];
+            today[s] = with_quantity(sum, p);
+        } else {
+            let sum = later[s];
+            later[s] = with_quantity(sum, p);
+        }
         i += 1;
     }
-    if !sums_zero(&today) {
+    if !sums_zero(today) {
         return false;
     }
-    sums_zero(&later)
+    sums_zero(later)
 }

@@ -16,11 +16,10 @@ use Rattle.rules.specs.Book.{holdingAt}
 use Rattle.rules.specs.Sound.{byAccount, totalsHeld, totalHeld, holdingsFit, holdsListed}
 use Rattle.rules.specs.declared.Book.{Book}
 use Rattle.laws.specs.Cases.{by-test, both-hold, and-hold, true-false, cond-yes}
-use Rattle.laws.specs.All.{all-by-index, all-cons}
+use Rattle.laws.specs.All.{all-by-index, all-cons, securities-length, security-at}
 use Rattle.laws.specs.Walks.{all-at}
 use Rattle.laws.specs.Tables.{groups-length, groups-at}
 use Rattle.laws.specs.Totals.{totals-held-length, total-is-sum, held-part}
-use Rattle.sound_positions.specs.Balance.{securities-length, security-at}
 
 -- the most that the accounts may hold together of a security with this code
 unfoldable pub mostOf : ℕ → ℕ

@@ -11,6 +11,7 @@ use lib.Dec.{eqb}
 use lib.ListN.{length, getD, take, drop, set, replicate, length-set, length-replicate, getD-replicate, drop-of-length-le}
 use lib.Seq.{drop-cons, getD-set-same, getD-set-other}
 use borrow.Author.Tests.{eq-eqb, ne-eqb}
+use Rattle.units.specs.declared.Amount.{Amount}
 use Rattle.laws.specs.Cases.{cond-yes, cond-no, and-step}
 
 -- ── a test ──
@@ -57,41 +58,48 @@ module _ {A : Type 0} (place : ℕ → A → ℕ) (amount : A → ℕ) where
   unfolding amountsAt
   amounts-step x i l d h = rw (add-one i, drop-cons l i d h)
 
+-- a number of mils as an amount, and the number in the sum at a place
+abbrev pub asAmount : ℕ → Amount
+asAmount n = record { 0 = n }
+
+abbrev pub sumAt : List Amount → ℕ → ℕ
+sumAt sums x = getD sums x (asAmount 0) .0
+
 -- the sums of the first i entries, each amount at most b: with what is left they make the whole
-pub record Gathered {A : Type 0} (place : ℕ → A → ℕ) (amount : A → ℕ) (n b : ℕ) (sums : List ℕ) (l : List A) (i : ℕ) : Type 0 where
+pub record Gathered {A : Type 0} (place : ℕ → A → ℕ) (amount : A → ℕ) (n b : ℕ) (sums : List Amount) (l : List A) (i : ℕ) : Type 0 where
   pub long : length sums ≡ n
-  pub sum : (x : ℕ) → x < n → getD sums x 0 + amountsAt place amount x i (drop i l) ≡ amountsAt place amount x 0 l
-  pub small : (x : ℕ) → x < n → getD sums x 0 ≤ i * b
+  pub sum : (x : ℕ) → x < n → sumAt sums x + amountsAt place amount x i (drop i l) ≡ amountsAt place amount x 0 l
+  pub small : (x : ℕ) → x < n → sumAt sums x ≤ i * b
 
 module _ {A : Type 0} (place : ℕ → A → ℕ) (amount : A → ℕ) (n b : ℕ) where
-  pub gathered-none : (l : List A) → Gathered place amount n b (replicate n 0) l 0
+  pub gathered-none : (l : List A) → Gathered place amount n b (replicate n (asAmount 0)) l 0
   gathered-none l = record {
-    long = length-replicate {A = ℕ} n 0;
-    sum = λ x h. omega (arith, getD-replicate {A = ℕ} n x 0 0 h);
-    small = λ x h. omega (arith, getD-replicate {A = ℕ} n x 0 0 h);
+    long = length-replicate n (asAmount 0);
+    sum = λ x h. omega (arith, ap (λ (a : Amount). a .0) (getD-replicate n x (asAmount 0) (asAmount 0) h));
+    small = λ x h. omega (arith, ap (λ (a : Amount). a .0) (getD-replicate n x (asAmount 0) (asAmount 0) h));
   }
 
   -- one entry more, with the place y and the amount m
-  pub gathered-more : (sums : List ℕ) (l : List A) (i : ℕ) (d : A) (y m : ℕ) → i < length l → place i (getD l i d) ≡ y → amount (getD l i d) ≡ m
-      → y < n → m ≤ b → Gathered place amount n b sums l i → Gathered place amount n b (set sums y (getD sums y 0 + m)) l (i + 1)
+  pub gathered-more : (sums : List Amount) (l : List A) (i : ℕ) (d : A) (y m : ℕ) → i < length l → place i (getD l i d) ≡ y → amount (getD l i d) ≡ m
+      → y < n → m ≤ b → Gathered place amount n b sums l i → Gathered place amount n b (set sums y (asAmount (sumAt sums y + m))) l (i + 1)
   gathered-more sums l i d y m h p a k s g = record {
-    long = length-set sums y (getD sums y 0 + m) ∙ g .long;
+    long = length-set sums y (asAmount (sumAt sums y + m)) ∙ g .long;
     sum = λ x o. dite (ℕ-discrete x y)
         (λ e. omega (arith, g .sum x o, amounts-step place amount x i l d h, cond-yes (amount (getD l i d)) 0 (eq-eqb (place i (getD l i d)) x (p ∙ sym e)), a, same x e))
         (λ u. omega (arith, g .sum x o, amounts-step place amount x i l d h, cond-no (amount (getD l i d)) 0 (ne-eqb (place i (getD l i d)) x (λ e. u (sym e ∙ p))), other x u));
-    small = λ x o. let had : getD sums x 0 ≤ i * b = g .small x o in
+    small = λ x o. let had : sumAt sums x ≤ i * b = g .small x o in
         let more : (i + 1) * b ≡ i * b + b = omega arith in
         dite (ℕ-discrete x y) (λ e. omega (arith, same x e)) (λ u. omega (arith, other x u));
   }
     where
-      same : (x : ℕ) → x ≡ y → getD (set sums y (getD sums y 0 + m)) x 0 ≡ getD sums x 0 + m
-      same x e = rw e (getD-set-same sums y (getD sums y 0 + m) 0 (omega (arith, g .long)))
+      same : (x : ℕ) → x ≡ y → sumAt (set sums y (asAmount (sumAt sums y + m))) x ≡ sumAt sums x + m
+      same x e = rw e (ap (λ (a : Amount). a .0) (getD-set-same sums y (asAmount (sumAt sums y + m)) (asAmount 0) (omega (arith, g .long))))
 
-      other : (x : ℕ) → (x ≡ y → ⊥) → getD (set sums y (getD sums y 0 + m)) x 0 ≡ getD sums x 0
-      other x u = getD-set-other sums y x (getD sums y 0 + m) 0 u
+      other : (x : ℕ) → (x ≡ y → ⊥) → sumAt (set sums y (asAmount (sumAt sums y + m))) x ≡ sumAt sums x
+      other x u = ap (λ (a : Amount). a .0) (getD-set-other sums y x (asAmount (sumAt sums y + m)) (asAmount 0) u)
 
-  pub gathered-done : (sums : List ℕ) (l : List A) (i : ℕ) → length l ≤ i → Gathered place amount n b sums l i
-      → (x : ℕ) → x < n → getD sums x 0 ≡ amountsAt place amount x 0 l
+  pub gathered-done : (sums : List Amount) (l : List A) (i : ℕ) → length l ≤ i → Gathered place amount n b sums l i
+      → (x : ℕ) → x < n → sumAt sums x ≡ amountsAt place amount x 0 l
   unfolding amountsAt
   gathered-done sums l i h g x k =
       omega (arith, g .sum x k, ap (amountsAt place amount x i) (drop-of-length-le l {i = i} h))

@@ -2,14 +2,15 @@
 use mathlib.Core.Path.{_≡_, refl, sym, ap, _∙_}
 use mathlib.Core.Bool.{Bool, true, not, cond, _&&_}
 use mathlib.Core.List.{List, [], _∷_}
-use Prim.Native.Nat.{ℕ, zero, suc, _+_, _*_, _^_, _<_, _≤_}
+use Prim.Native.Nat.{ℕ, zero, suc, _+_, _*_, _<_, _≤_}
 use native.Mathlib.Omega.{arith}
 use lib.Dec.{eqb, leb}
-use lib.ListN.{length, getD, take, drop, set, length-take, length-drop}
+use lib.ListN.{length, getD, take, drop, length-take, length-drop}
 use lib.IntN.{natAbs}
 use borrow.Author.Tests.{eq-eqb, ne-eqb, eqb-true, eqb-false, leb-true, not-true}
 use Rattle.units.specs.Units.{milsOf, mostShares, mostMils}
 use Rattle.units.specs.declared.Mils.{Mils}
+use Rattle.units.specs.declared.Amount.{Amount}
 use Rattle.rules.specs.Words.{all, total, from}
 use Rattle.rules.specs.Bounds.{mostRecords, mostAtStake, everyCurrency}
 use Rattle.rules.specs.Book.{quantityOf, moneyOf, accountOf, securityOf, openOf, currencyOf, unlisted}
@@ -22,7 +23,7 @@ use Rattle.laws.specs.All.{all-so}
 use Rattle.laws.specs.Keeping.{keep-both}
 use Rattle.laws.specs.Adding.{total-keep}
 use Rattle.laws.specs.Numbers.{security-below}
-use Rattle.sound_tables.specs.Placed.{allFrom, from-split, amountsAt}
+use Rattle.sound_tables.specs.Placed.{allFrom, from-split, amountsAt, sumAt}
 
 -- what the sentences before have shown
 pub record MoneyAsks (k : Book) : Type 0 where
@@ -66,14 +67,6 @@ module _ (k : Book) (long : length (k .currency) ≡ 32) (asks : MoneyAsks k) wh
 
   pub currency-below : (i : ℕ) (d : Position) → i < length (openOf k) → currencyOf k (securityOf (getD (openOf k) i d)) < 4
   currency-below i d h = omega (arith, leb-true (currencyOf k (securityOf (getD (openOf k) i d))) 3 (all-at (hasCurrency k) (openOf k) i d have-currencies h))
-
--- one record's money is added at its place
-abbrev pub withMoney : Book → List ℕ → Position → List ℕ
-withMoney k sums p = set sums (placeOf k p) (getD sums (placeOf k p) 0 + sizeOf p)
-
-pub record AddAsks (k : Book) (sums : List ℕ) (p : Position) : Type 0 where
-  pub currency : currencyOf k (securityOf p) < 4
-  pub fits : getD sums (placeOf k p) 0 + sizeOf p < 2 ^ 64
 
 -- ── open money ──
 
@@ -119,14 +112,14 @@ open-money k a c long asks h =
 -- ── the charges ──
 
 -- the charge at a place, with the open money there
-abbrev pub stakeFits : List ℕ → ℕ → Mils → Bool
-stakeFits sums place m = leb (natAbs (milsOf m) + getD sums place 0) mostAtStake
+abbrev pub stakeFits : List Amount → ℕ → Mils → Bool
+stakeFits sums place m = leb (natAbs (milsOf m) + sumAt sums place) mostAtStake
 
 -- the sums are the open money of each account and currency
-abbrev pub Sums : Book → List ℕ → Type 0
-Sums k sums = (a c : ℕ) → a < 64 → c < 4 → getD sums (a * 4 + c) 0 ≡ openMoney k (recordsOf a (openOf k)) c
+abbrev pub Sums : Book → List Amount → Type 0
+Sums k sums = (a c : ℕ) → a < 64 → c < 4 → sumAt sums (a * 4 + c) ≡ openMoney k (recordsOf a (openOf k)) c
 
-module _ (k : Book) (sums : List ℕ) (are : Sums k sums) where
+module _ (k : Book) (sums : List Amount) (are : Sums k sums) where
   row-fits : (a : ℕ) (cs : List Mils) → a < 64 → length cs ≡ 4 → moneyFitsOf k (recordsOf a (openOf k)) cs ≡ allFrom (stakeFits sums) (a * 4) cs
   unfolding moneyFitsOf all everyCurrency from allFrom
   row-fits a [] h e = absurd (omega arith)
@@ -134,8 +127,8 @@ module _ (k : Book) (sums : List ℕ) (are : Sums k sums) where
   row-fits a (m₀ ∷ m₁ ∷ []) h e = absurd (omega arith)
   row-fits a (m₀ ∷ m₁ ∷ m₂ ∷ []) h e = absurd (omega arith)
   row-fits a (m₀ ∷ m₁ ∷ m₂ ∷ m₃ ∷ []) h e =
-      let at : (c : ℕ) → c < 4 → (x : ℕ) → x ≡ a * 4 + c → getD sums x 0 ≡ openMoney k (recordsOf a (openOf k)) c
-      = λ c l x f. ap (λ (y : ℕ). getD sums y 0) f ∙ are a c h l in
+      let at : (c : ℕ) → c < 4 → (x : ℕ) → x ≡ a * 4 + c → sumAt sums x ≡ openMoney k (recordsOf a (openOf k)) c
+      = λ c l x f. ap (λ (y : ℕ). sumAt sums y) f ∙ are a c h l in
       rw (
         at 0 (omega arith) (a * 4) (omega arith),
         at 1 (omega arith) (suc (a * 4)) (omega arith),

@@ -6,19 +6,20 @@ use book::records_at;
 use rules::Position;
 use sound_positions::account_of;
 use sound_positions::security_of;
+use units::Amount;
 use units::Mils;
 ghost use mathlib.Core.Path.{_≡_};
-ghost use Prim.Native.Nat.{ℕ, _+_, _<_, _≤_};
+ghost use Prim.Native.Nat.{ℕ, _+_, _<_, _≤_, _^_};
 ghost use lib.Dec.{leb};
-ghost use lib.ListN.{length, getD};
+ghost use lib.ListN.{length};
 ghost use lib.IntN.{natAbs};
 ghost use Rattle.units.specs.Units.{milsOf};
 ghost use Rattle.rules.specs.Bounds.{currencies, mostAtStake};
 ghost use Rattle.rules.specs.Book.{securityOf, currencyOf};
 ghost use Rattle.rules.specs.Layout.{bookLength, bookOf};
 ghost use Rattle.rules.specs.Sound.{moneyFits};
-ghost use Rattle.sound_tables.specs.Placed.{allFrom};
-ghost use Rattle.sound_tables.specs.Stakes.{MoneyAsks, AddAsks, placeOf, withMoney, Sums, stakeFits};
+ghost use Rattle.sound_tables.specs.Placed.{allFrom, sumAt};
+ghost use Rattle.sound_tables.specs.Stakes.{MoneyAsks, placeOf, sizeOf, Sums, stakeFits};
 
 // Where the money of a position counts: account * 4 + currency.
 fn place_of(b: &[u8], p: Position) -> usize
@@ -31,50 +32,53 @@ fn place_of(b: &[u8], p: Position) -> usize
     a * 4 + c
 }
 
-// The size of a position's money, added at its place.
-fn add_money(sums: &mut [u64; 256], b: &[u8], p: Position)
-    requires { ⌜ (length (now b) ≡ bookLength) × AddAsks (bookOf (now b)) (now sums) p ⌝ }
-    ensures { λ _. ⌜ now (sums .exit) ≡ withMoney (bookOf (now (b .entry))) (now (sums .entry)) p ⌝ }
+// The size of a position's money, added to a sum.
+fn with_money(sum: Amount, p: Position) -> Amount
+    requires { ⌜ sum .0 + sizeOf p < 2 ^ 64 ⌝ }
+    ensures { λ r. ⌜ r .0 ≡ sum .0 + sizeOf p ⌝ }
 {
-    let at = place_of(b, p);
     let m = p.money;
     let size = m.size();
-    let sum = sums[at] + size;
-    sums[at] = sum;
+    Amount(sum.0 + size.0)
 }
 
 // The sizes of open money of each account and currency, in one pass over the records.
-fn open_money(b: &[u8]) -> [u64; 256]
+fn open_money(b: &[u8]) -> [Amount; 256]
     requires { ⌜ (length (now b) ≡ bookLength) × MoneyAsks (bookOf (now b)) ⌝ }
-    ensures { λ r. ⌜ Sums (bookOf (now (b .entry))) r × ((x : ℕ) → x < 256 → getD r x 0 ≤ mostAtStake) ⌝ }
+    ensures { λ r. ⌜ Sums (bookOf (now (b .entry))) r × ((x : ℕ) → x < 256 → sumAt r x ≤ mostAtStake) ⌝ }
 {
     let n = records_at(b) as usize;
-    let mut sums: [u64; 256] = [0; 256];
+    let none = Amount(0);
+    let mut sums: [Amount; 256] = [none; 256];
     let mut i: usize = 0;
     while i < n {
         let p = position_at(b, i);
-        add_money(&mut sums, b, p);
+        let at = place_of(b, p);
+        let sum = sums[at];
+        sums[at] = with_money(sum, p);
         i += 1;
     }
     sums
 }
 
-fn stake_fits(charge: Mils, money: u64) -> bool
-    requires { ⌜ money ≤ mostAtStake ⌝ }
-    ensures { λ r. ⌜ r ≡ leb (natAbs (milsOf charge) + money) mostAtStake ⌝ }
+fn stake_fits(charge: Mils, money: Amount) -> bool
+    requires { ⌜ money .0 ≤ mostAtStake ⌝ }
+    ensures { λ r. ⌜ r ≡ leb (natAbs (milsOf charge) + money .0) mostAtStake ⌝ }
 {
-    let room = 2_621_440_000_000_000_000 - money;
-    charge.size() <= room
+    let room = 2_621_440_000_000_000_000 - money.0;
+    let size = charge.size();
+    size.0 <= room
 }
 
-fn charges_fit(b: &[u8], sums: &[u64; 256]) -> bool
-    requires { ⌜ (length (now b) ≡ bookLength) × ((x : ℕ) → x < 256 → getD (now sums) x 0 ≤ mostAtStake) ⌝ }
-    ensures { λ r. ⌜ r ≡ allFrom (stakeFits (now (sums .entry))) 0 (bookOf (now (b .entry)) .charges) ⌝ }
+fn charges_fit(b: &[u8], sums: [Amount; 256]) -> bool
+    requires { ⌜ (length (now b) ≡ bookLength) × ((x : ℕ) → x < 256 → sumAt sums x ≤ mostAtStake) ⌝ }
+    ensures { λ r. ⌜ r ≡ allFrom (stakeFits sums) 0 (bookOf (now (b .entry)) .charges) ⌝ }
 {
     let mut i: usize = 0;
     while i < 256 {
         let charge = charge_at(b, i);
-        if !stake_fits(charge, sums[i]) {
+        let sum = sums[i];
+        if !stake_fits(charge, sum) {
             return false;
         }
         i += 1;
@@ -87,5 +91,5 @@ pub fn money_fits(b: &[u8]) -> bool
     ensures { λ r. ⌜ r ≡ moneyFits (bookOf (now (b .entry))) ⌝ }
 {
     let sums = open_money(b);
-    charges_fit(b, &sums)
+    charges_fit(b, sums)
 }

@@ -1,4 +1,5 @@
 // Money in mils: each operation is the whole number's, and gives or takes nothing but money.
+use crate::Amount;
 use crate::Mils;
 use crate::Whole;
 ghost use mathlib.Core.Path.{_≡_};
@@ -42,18 +43,18 @@ impl Mils {
         a.is_zero()
     }
 
-    pub fn size(self) -> u64
-        ensures { λ r. ⌜ r ≡ natAbs (milsOf self) ⌝ }
+    pub fn size(self) -> Amount
+        ensures { λ r. ⌜ r .0 ≡ natAbs (milsOf self) ⌝ }
     {
         let a = self.0;
-        a.size()
+        Amount(a.size())
     }
 
-    pub fn of(negative: bool, size: u64) -> Mils
-        requires { ⌜ size < 2 ^ 63 ⌝ }
-        ensures { λ r. ⌜ (milsOf r ≡ signed negative size) × (natAbs (milsOf r) ≡ size) ⌝ }
+    pub fn of(negative: bool, size: Amount) -> Mils
+        requires { ⌜ size .0 < 2 ^ 63 ⌝ }
+        ensures { λ r. ⌜ (milsOf r ≡ signed negative (size .0)) × (natAbs (milsOf r) ≡ size .0) ⌝ }
     {
-        Mils(Whole::of(negative, size))
+        Mils(Whole::of(negative, size.0))
     }
 
     pub fn bits(self) -> u64

@@ -1,6 +1,7 @@
 // Shares: each operation is the whole number's, and gives or takes nothing but shares; `times` a price gives money.
 use crate::Mils;
 use crate::Price;
+use crate::Quantity;
 use crate::Shares;
 use crate::Whole;
 ghost use mathlib.Core.Path.{_≡_};
@@ -44,18 +45,18 @@ impl Shares {
         a.is_zero()
     }
 
-    pub fn size(self) -> u64
-        ensures { λ r. ⌜ r ≡ natAbs (sharesOf self) ⌝ }
+    pub fn size(self) -> Quantity
+        ensures { λ r. ⌜ r .0 ≡ natAbs (sharesOf self) ⌝ }
     {
         let a = self.0;
-        a.size()
+        Quantity(a.size())
     }
 
-    pub fn of(negative: bool, size: u64) -> Shares
-        requires { ⌜ size < 2 ^ 63 ⌝ }
-        ensures { λ r. ⌜ (sharesOf r ≡ signed negative size) × (natAbs (sharesOf r) ≡ size) ⌝ }
+    pub fn of(negative: bool, size: Quantity) -> Shares
+        requires { ⌜ size .0 < 2 ^ 63 ⌝ }
+        ensures { λ r. ⌜ (sharesOf r ≡ signed negative (size .0)) × (natAbs (sharesOf r) ≡ size .0) ⌝ }
     {
-        Shares(Whole::of(negative, size))
+        Shares(Whole::of(negative, size.0))
     }
 
     // Nearer to zero by k shares: what is left of a position when a part of it goes.

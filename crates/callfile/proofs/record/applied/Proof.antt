@@ -2,9 +2,9 @@
 use borrow.Author.Needs.{needs}
 use mathlib.Core.Path.{refl, sym, ap, _∙_}
 use Rattle.rules.specs.Calls.{figure}
-use Rattle.callfile.specs.declared.reading.Read.{Read}
-use Rattle.callfile.specs.Bodies.{codesAt}
-use Rattle.callfile.specs.Reading.{says}
+use Rattle.callfile_format.specs.declared.reading.Read.{Read}
+use Rattle.callfile_format.specs.Bodies.{codesAt}
+use Rattle.callfile_format.specs.Reading.{says}
 use Rattle.callfile.specs.Answering.{place-small}
 use Rattle.callfile.specs.Applying.{none-done, call-done, run-done, codes-there, create-done}
 use Rattle.callfile.proofs.record.applied.Statement.{statement}

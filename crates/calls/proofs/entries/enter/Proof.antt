@@ -1,7 +1,7 @@
 -- `calls::entries::enter` meets its contract: a refusal, acceptance. Assumes nothing.
 use borrow.Author.Needs.{needs}
 use mathlib.Core.Path.{sym, _∙_}
-use Rattle.calls.specs.Lent.{long, is-sound, refused, accepted}
+use Rattle.laws.specs.SoundBytes.{long, is-sound, refused, accepted}
 use Rattle.calls.specs.Entries.{few-entries, enter-asks}
 use Rattle.calls.proofs.entries.enter.Statement.{statement}
 use Rattle.calls.proofs.entries.enter.Tie as tie

@@ -9,7 +9,7 @@ use Rattle.rules.specs.Calls.{deposit, answerSound}
 use Rattle.laws.specs.Accepted.{MayHold, may-deposit}
 use Rattle.book.specs.Views.{holdings-long}
 use Rattle.calls.specs.Holdings.{entry-small, deposited}
-use Rattle.calls.specs.Lent.{long, is-sound, refused, accepted}
+use Rattle.laws.specs.SoundBytes.{long, is-sound, refused, accepted}
 use Rattle.calls.proofs.holdings.deposit.Statement.{statement}
 use Rattle.calls.proofs.holdings.deposit.Tie as tie
 

@@ -9,7 +9,7 @@ use Rattle.rules.specs.Layout.{bookOf, bytesOf}
 use Rattle.rules.specs.Calls.{withdraw, answerSound}
 use Rattle.laws.specs.Accepted.{MayHold, may-withdraw}
 use Rattle.calls.specs.Holdings.{withdrawn}
-use Rattle.calls.specs.Lent.{long, refused, accepted}
+use Rattle.laws.specs.SoundBytes.{long, refused, accepted}
 use Rattle.calls.proofs.holdings.withdraw.Statement.{statement}
 use Rattle.calls.proofs.holdings.withdraw.Tie as tie
 

@@ -9,7 +9,7 @@ use Rattle.rules.specs.Layout.{bookOf}
 use Rattle.rules.specs.Trades.{badSecurity}
 use Rattle.rules.specs.declared.Book.{Book}
 use Rattle.settling.specs.Ends.{security-below}
-use Rattle.calls.specs.Lent.{long, is-sound}
+use Rattle.laws.specs.SoundBytes.{long, is-sound}
 use Rattle.calls.specs.Runs.{run-unlisted, run-idle, run-refused, run-accepted}
 use Rattle.calls.proofs.runs.run.Statement.{statement}
 use Rattle.calls.proofs.runs.run.Tie as tie
@@ -34,7 +34,7 @@ abbrev counted : tie.After-deliverable-of → tie.Else1
 counted c = c .before .before
 
 abbrev answered : tie.After-run-refusal → tie.After-deliverable-of
-answered c = c .before .before .before
+answered c = c .before .before .before .before
 
 -- ── the needs ──
 
@@ -68,7 +68,7 @@ held c = record { byte = λ i. omega (arith, c .before .before .before .before .
 
 returns-2 : tie.Need-returns-2
 returns-2 c =
-    let d = c .before .before in
+    let d = c .before .before .before in
     let e = counted d in
     let s = start e in
     run-idle (s .args .book .now) (s .pre) (s .args .security) (c .of .result) (held e) (listed e) (sym (d .deliverable-of .ensures .0) ∙ c .before .if2 .taken) (c .of .ensures .0)
@@ -77,7 +77,7 @@ returns-2 c =
 
 run-refusal-requires : tie.Need-run-refusal-requires
 run-refusal-requires c κs =
-    let d = c .before .before in
+    let d = c .before .before .before in
     let s = start (counted d) in
     (long _ (s .pre), is-sound _ (s .pre), listed (counted d), d .deliverable-of .ensures .0)
 

@@ -18,20 +18,20 @@ returns : tie.Need-returns
 returns c =
     answer-past _ _ _ _ _ (c .before .before .before .favourable-total .ensures) (c .before .before .unfavourable-total .ensures) (sym (c .before .passes-limit .ensures) ∙ c .if1 .taken)
 
-number-in-requires : tie.Need-number-in-requires
-number-in-requires c κs = search needs
+amount-in-requires : tie.Need-amount-in-requires
+amount-in-requires c κs = search needs
 
-number-in-requires-2 : tie.Need-number-in-requires-2
-number-in-requires-2 c κs = search needs
+amount-in-requires-2 : tie.Need-amount-in-requires-2
+amount-in-requires-2 c κs = search needs
 
 due-of-requires : tie.Need-due-of-requires
 due-of-requires c κs =
-    rw (c .number-in2 .ensures)
+    rw (c .amount-in2 .ensures)
     (down-within _ _ _ _ _ (c .before .before .before .before .before .favourable-total .ensures) (c .before .before .before .before .unfavourable-total .ensures) (sym (c .before .before .before .passes-limit .ensures) ∙ c .before .before .if1 .left))
 
 returns-2 : tie.Need-returns-2
 returns-2 c =
-    rw (c .before .before .number-in .ensures, c .before .number-in2 .ensures) at (c .due-of .ensures)
+    rw (c .before .before .amount-in .ensures, c .before .amount-in2 .ensures) at (c .due-of .ensures)
     ∙ answer-due _ _ _ _ _ (c .before .before .before .before .before .before .favourable-total .ensures) (c .before .before .before .before .before .unfavourable-total .ensures) (sym (c .before .before .before .before .passes-limit .ensures) ∙ c .before .before .before .if1 .left)
 
 pub answer-of-spec : {M : Type 1} → statement M
@@ -42,7 +42,7 @@ answer-of-spec =
     unfavourable-total-requires
     passes-limit-requires
     returns
-    number-in-requires
-    number-in-requires-2
+    amount-in-requires
+    amount-in-requires-2
     due-of-requires
     returns-2)

@@ -9,7 +9,7 @@ use Rattle.rules.specs.declared.Book.{Book}
 use Rattle.laws.specs.SoundParts.{sound-parts}
 use Rattle.laws.specs.Blanks.{records-few}
 use Rattle.marking.specs.SoundMarks.{termsTests}
-use Rattle.marking.specs.Summing.{sum-priced, lacks-priced}
+use Rattle.marking_sums.specs.Summing.{sum-priced, lacks-priced}
 use Rattle.marking.specs.Passing.{Passed, all-passed}
 use Rattle.marking.specs.Answering.{refused-terms, refused-unpriced, answered}
 use Rattle.marking.proofs.answer.marks_of.Statement.{statement}

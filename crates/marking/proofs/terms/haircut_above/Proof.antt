@@ -8,7 +8,7 @@ use native.Mathlib.Omega.{arith}
 use lib.ListN.{length, take}
 use Rattle.units.specs.Units.{wholeHaircut}
 use Rattle.rules.specs.Words.{any, above}
-use Rattle.trading.specs.Finding.{any-none, any-more, any-found, any-done}
+use Rattle.laws.specs.Finding.{any-none, any-more, any-found, any-done}
 use Rattle.marking.proofs.terms.haircut_above.Statement.{statement}
 use Rattle.marking.proofs.terms.haircut_above.Tie as tie
 

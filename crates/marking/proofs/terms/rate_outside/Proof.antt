@@ -7,7 +7,7 @@ use native.Mathlib.Omega.{arith}
 use lib.ListN.{length, take}
 use Rattle.units.specs.Units.{topRate}
 use Rattle.rules.specs.Words.{any, outside}
-use Rattle.trading.specs.Finding.{any-none, any-more, any-found, any-done}
+use Rattle.laws.specs.Finding.{any-none, any-more, any-found, any-done}
 use Rattle.marking.proofs.terms.rate_outside.Statement.{statement}
 use Rattle.marking.proofs.terms.rate_outside.Tie as tie
 

@@ -4,7 +4,7 @@ use borrow.Author.Tests.{lt-ltb, le-ltb}
 use mathlib.Core.Path.{sym, _∙_}
 use Rattle.rules.specs.Trades.{noAccount}
 use Rattle.rules.specs.Marks.{Terms, terms}
-use Rattle.trading.specs.Ways.{through, stop, pass, answer}
+use Rattle.laws.specs.Ways.{through, stop, pass, answer}
 use Rattle.marking.specs.SoundMarks.{termsTests}
 use Rattle.marking.specs.Passing.{Lengths, lengths-right, bad-rated}
 use Rattle.marking.proofs.terms.terms_refusal.Statement.{statement}

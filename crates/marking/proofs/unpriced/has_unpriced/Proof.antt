@@ -15,9 +15,9 @@ use Rattle.rules.specs.Marks.{lacksPrice, markedOf}
 use Rattle.rules.specs.declared.Position.{Position}
 use Rattle.rules.specs.declared.Book.{Book}
 use Rattle.book.specs.Views.{positions-long}
-use Rattle.trading.specs.Finding.{any-none, listed-more, listed-found, listed-done}
-use Rattle.marking.specs.Summing.{priced}
-use Rattle.marking.specs.Looking.{any-kept}
+use Rattle.laws.specs.Finding.{any-none, listed-more, listed-found, listed-done}
+use Rattle.marking_sums.specs.Summing.{priced}
+use Rattle.marking_prices.specs.Looking.{any-kept}
 use Rattle.marking.proofs.unpriced.has_unpriced.Statement.{statement}
 use Rattle.marking.proofs.unpriced.has_unpriced.Tie as tie
 

@@ -9,7 +9,7 @@ use Rattle.rules.specs.Marks.{lacksPrice}
 use Rattle.marking.proofs.unpriced.lacks_price.Statement.{statement}
 use Rattle.marking.proofs.unpriced.lacks_price.Tie as tie
 
-price-is : (c : tie.After-price-of) → c .price-of .result ≡ priceOf (c .before .before .before .before .before .before .args .intraday .now) (c .before .before .before .before .before .before .args .closing .now) (securityOf (c .before .before .before .before .before .before .args .p))
+price-is : (c : tie.After-price-of) → c .price-of .result .0 ≡ priceOf (c .before .before .before .before .before .before .args .intraday .now) (c .before .before .before .before .before .before .args .closing .now) (securityOf (c .before .before .before .before .before .before .args .p))
 price-is c = rw (← c .before .security-of .ensures .0) (c .price-of .ensures)
 
 is-zero-requires : tie.Need-is-zero-requires

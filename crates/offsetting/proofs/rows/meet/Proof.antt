@@ -6,7 +6,7 @@ use lib.ListN.{length}
 use Rattle.units.specs.declared.Mils.{Mils}
 use Rattle.rules.specs.Layout.{bookLength, bookOf}
 use Rattle.rules.specs.declared.Book.{Book}
-use Rattle.offsetting.specs.Meeting.{meetingOf}
+use Rattle.offsetting_meetings.specs.Meeting.{meetingOf}
 use Rattle.offsetting.specs.Rows.{meetingIn, met-in}
 use Rattle.offsetting.proofs.rows.meet.Statement.{statement}
 use Rattle.offsetting.proofs.rows.meet.Tie as tie

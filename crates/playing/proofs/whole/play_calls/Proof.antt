@@ -6,8 +6,8 @@ use native.Mathlib.Omega.{arith}
 use lib.ListN.{length}
 use mir.Syntax.{w64}
 use mir.Val.{Fits}
-use Rattle.playing.specs.Playing.{State, endBook, endAnswers, begins, ends, step, one-more, holds-sound, holds-long, answers-long}
-use Rattle.playing.specs.Again.{Refuses, known-behind}
+use Rattle.playing_records.specs.Playing.{State, endBook, endAnswers, begins, ends, step, one-more, holds-sound, holds-long, answers-long}
+use Rattle.playing_records.specs.Again.{Refuses, known-behind}
 use Rattle.playing.proofs.whole.play_calls.Statement.{statement}
 use Rattle.playing.proofs.whole.play_calls.Tie as tie
 

@@ -10,10 +10,10 @@ use Rattle.fields.specs.Field.{Bytes}
 use Rattle.fields.specs.FieldLaws.{length-stored}
 use Rattle.rules.specs.Records.{create, recordAt, otherVersion}
 use Rattle.rules.specs.CallFile.{contentsOf}
-use Rattle.callfile.specs.Bodies.{codesAt}
-use Rattle.playing.specs.Steps.{none-there}
-use Rattle.playing.specs.Playing.{nine}
-use Rattle.playing.specs.First.{other-says, none-first, first-create, create-fits}
+use Rattle.callfile_format.specs.Bodies.{codesAt}
+use Rattle.playing_records.specs.Steps.{none-there}
+use Rattle.playing_records.specs.Playing.{nine}
+use Rattle.playing_records.specs.First.{other-says, none-first, first-create, create-fits}
 use Rattle.playing.specs.Whole.{one-room, one-answer, first-room, ready, all-played}
 use Rattle.playing.proofs.whole.play_records.Statement.{statement}
 use Rattle.playing.proofs.whole.play_records.Tie as tie

@@ -134,7 +134,7 @@ returns c =
     let r = read m in
     let s = start r in
     met-is (book r) (bookOf (o .put-position .last .0)) (bookOf (p .put-position2 .last .0)) (s .args .g) (s .args .r) _ _ (o .put-position .ensures .1) (p .put-position2 .ensures .1)
-    (bookOf (v .move-shares .last .0)) (bookOf (w .charge-parts .last .0)) (s .args .security) (s .args .size) _ _ (r .before .before .position-at .result) (r .position-at2 .result) (v .move-shares .ensures)
+    (bookOf (v .move-shares .last .0)) (bookOf (w .charge-parts .last .0)) (s .args .security) (s .args .size .0) _ _ (r .before .before .position-at .result) (r .position-at2 .result) (v .move-shares .ensures)
     _ (m .of .ensures .1) (r .before .before .position-at .ensures) (r .position-at2 .ensures) (o .before .before .before .rest-of .ensures) (o .before .before .rest-of2 .ensures)
     (m .before .before .holding-place .ensures .0) (m .before .holding-place2 .ensures .0) (w .charge-parts .ensures)
 

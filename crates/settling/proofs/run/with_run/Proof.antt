@@ -13,7 +13,7 @@ use Rattle.rules.specs.LayoutLaws.{bytes-book}
 use Rattle.laws.specs.RunLeaves.{closed, settled-is, end-shares}
 use Rattle.laws.specs.RunSound.{may-run}
 use Rattle.laws.specs.Walk.{Walking}
-use Rattle.settling.specs.Bytes.{shaped}
+use Rattle.laws.specs.SoundBytes.{shaped}
 use Rattle.settling.specs.Ends.{pack-asks, closed-is}
 use Rattle.settling.proofs.run.with_run.Statement.{statement}
 use Rattle.settling.proofs.run.with_run.Tie as tie
@@ -52,19 +52,19 @@ pack-requires c κs =
     let s = start w in
     (long w, pack-asks (bookOf (s .args .b .now)) (bookOf (w .walk .last .0)) (s .pre .1) (shaped (s .args .b .now)) (w .walk .ensures .beside))
 
-sub-of : tie.Need-sub-of
-sub-of c = walked (c .before .before) .walk .ensures .some
+sub-moved : tie.Need-sub-moved
+sub-moved c = walked (c .before .before .before .before) .walk .ensures .some
 
 of-requires : tie.Need-of-requires
-of-requires c κs = omega (arith, start (walked (c .before .before)) .pre .4)
+of-requires c κs = omega (arith, start (walked (c .before .before .before .before)) .pre .4)
 
 same-length : tie.Need-same-length
-same-length c = let p = c .before .before .before in omega (arith, long₂ p, start (walked p) .pre .0)
+same-length c = let p = c .before .before .before .before .before in omega (arith, long₂ p, start (walked p) .pre .0)
 
 returns : tie.Need-returns
 unfolding after figure
 returns c =
-    let k = c .before in
+    let k = c .before .before .before in
     let p = k .before .before in
     let w = walked p in
     let s = start w in
@@ -72,7 +72,7 @@ returns c =
     let is = s .args .security in
     let e = w .walk .ensures in (
       sym (bytes-book (p .pack .last .0) (bytes k) (long₂ p))
-          ∙ ap bytesOf (p .pack .ensures ∙ closed-is b (bookOf (w .walk .last .0)) (s .args .gives) (w .walk .result) (e .beside)
+          ∙ ap bytesOf (p .pack .ensures ∙ closed-is b (bookOf (w .walk .last .0)) (s .args .gives .0) (w .walk .result .0) (e .beside)
           ∙ ap (closed b) (e .tables) ∙ sym (settled-is b is (listed s .0) (s .pre .1) (shaped (s .args .b .now)))),
       c .of .ensures .0
           ∙ ap pos (ap (λ (x : Walking). x .shares) (e .tables) ∙ end-shares b is (listed s .0) (s .pre .1) (shaped (s .args .b .now))),
@@ -80,4 +80,4 @@ returns c =
 
 pub with-run-spec : {M : Type 1} → statement M
 with-run-spec =
-    tie.close (tie.spec walk-requires pack-requires sub-of of-requires same-length returns)
+    tie.close (tie.spec walk-requires pack-requires sub-moved of-requires same-length returns)

@@ -11,14 +11,14 @@ size-requires c κs = search needs
 
 returns : tie.Need-returns
 returns c =
-    let a = c .before .before .before .args in
-    let zero = sym (c .before .size .ensures) ∙ c .if1 .taken in
-    wrote-as _ _ _ _ _ _ _ (sym (charge-none (a .account) (a .currency) (a .charge) zero)) (wrote-none _ _ _ _ _ (c .before .before .before .pre))
+    let a = c .before .before .before .before .args in
+    let zero = sym (c .before .before .size .ensures) ∙ c .if1 .taken in
+    wrote-as _ _ _ _ _ _ _ (sym (charge-none (a .account) (a .currency) (a .charge) zero)) (wrote-none _ _ _ _ _ (c .before .before .before .before .pre))
 
 put-one-requires : tie.Need-put-one-requires
 put-one-requires c κs =
-    let s = c .before .before .before .before in
-    let size = c .before .before .size .ensures in
+    let s = c .before .before .before .before .before in
+    let size = c .before .before .before .size .ensures in
     subst (Ready _ _ _) (charge-some (s .args .account) (s .args .currency) (s .args .charge) (λ z. c .before .if1 .left (size ∙ z))) (s .pre)
 
 same-length : tie.Need-same-length
@@ -26,8 +26,8 @@ same-length c = search needs
 
 returns-2 : tie.Need-returns-2
 returns-2 c =
-    let a = c .before .before .before .before .before .before .before .args in
-    let size = c .before .before .before .before .before .size .ensures in
+    let a = c .before .before .before .before .before .before .before .before .args in
+    let size = c .before .before .before .before .before .before .size .ensures in
     wrote-as _ _ _ _ _ _ _
     (sym (charge-some (a .account) (a .currency) (a .charge) (λ z. c .before .before .before .before .if1 .left (size ∙ z))))
     (c .before .before .put-one .ensures)

@@ -12,8 +12,11 @@ slice-aggregate-put-lines c = search needs
 put-lines-requires : tie.Need-put-lines-requires
 put-lines-requires c κs = (c .before .before .pre, λ e. true-false e refl)
 
+cast-result : tie.Need-cast-result
+cast-result c = search needs
+
 returns : tie.Need-returns
-returns c = width-is _ _ _ _ _ _ _ _ (c .before .put-lines .ensures)
+returns c = width-is _ _ _ _ _ _ _ _ (c .before .before .put-lines .ensures)
 
 pub sheet-width-spec : {M : Type 1} → statement M
-sheet-width-spec = tie.close (tie.spec slice-aggregate-put-lines put-lines-requires returns)
+sheet-width-spec = tie.close (tie.spec slice-aggregate-put-lines put-lines-requires cast-result returns)

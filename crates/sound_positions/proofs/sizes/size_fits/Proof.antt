@@ -11,7 +11,7 @@ size-requires c κs = search needs
 
 returns : tie.Need-returns
 unfolding sizesFit isPosition isZero
-returns c = rw (← c .before .size .ensures, lt-leb _ _ (c .if1 .taken))
+returns c = rw (← c .before .before .size .ensures, lt-leb _ _ (c .if1 .taken))
 
 size-requires-2 : tie.Need-size-requires-2
 size-requires-2 c κs = search needs
@@ -20,9 +20,9 @@ returns-2 : tie.Need-returns-2
 unfolding sizesFit isPosition isZero
 returns-2 c =
     rw (
-      ← c .before .before .before .before .size .ensures,
-      ← c .before .size2 .ensures,
-      le-leb _ _ (c .before .before .before .if1 .left),
+      ← c .before .before .before .before .before .before .size .ensures,
+      ← c .before .before .size2 .ensures,
+      le-leb _ _ (c .before .before .before .before .if1 .left),
       lt-leb _ _ (c .if2 .taken),
     )
 
@@ -30,10 +30,10 @@ returns-3 : tie.Need-returns-3
 unfolding sizesFit isPosition isZero
 returns-3 c =
     rw (
-      ← c .before .before .before .before .before .size .ensures,
-      ← c .before .before .size2 .ensures,
-      le-leb _ _ (c .before .before .before .before .if1 .left),
-      le-leb _ _ (c .before .if2 .left),
+      ← c .before .before .before .before .before .before .before .before .size .ensures,
+      ← c .before .before .before .before .size2 .ensures,
+      le-leb _ _ (c .before .before .before .before .before .before .if1 .left),
+      le-leb _ _ (c .before .before .if2 .left),
       ne-eqb _ _ (c .if3 .taken),
     )
 
@@ -41,11 +41,11 @@ returns-4 : tie.Need-returns-4
 unfolding sizesFit isPosition isZero
 returns-4 c =
     rw (
-      ← c .before .before .before .before .before .size .ensures,
-      ← c .before .before .size2 .ensures,
-      le-leb _ _ (c .before .before .before .before .if1 .left),
-      le-leb _ _ (c .before .if2 .left),
-      eq-eqb _ _ (c .if3 .left),
+      ← c .before .before .before .before .before .before .before .before .before .size .ensures,
+      ← c .before .before .before .before .before .size2 .ensures,
+      le-leb _ _ (c .before .before .before .before .before .before .before .if1 .left),
+      le-leb _ _ (c .before .before .before .if2 .left),
+      eq-eqb _ _ (c .before .if3 .left),
     )
 
 pub size-fits-spec : {M : Type 1} → statement M

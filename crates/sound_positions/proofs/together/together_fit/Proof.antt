@@ -3,22 +3,25 @@ use borrow.Author.Needs.{needs}
 use borrow.Author.Tests.{not-true, not-false}
 use mathlib.Core.Path.{_≡_, sym, ap, ap₂, _∙_}
 use mathlib.Core.Bool.{Bool, true, not, cond, _&&_, _||_}
+use mathlib.Core.List.{List}
+use mathlib.Core.Logic.{⊎-elim}
 use Prim.Native.Nat.{ℕ, _≤_, _-_}
 use native.Mathlib.Omega.{arith}
 use lib.ListN.{length, getD, take, drop}
 use lib.Seq.{getD-take, length-take-le}
+use Rattle.units.specs.declared.Shares.{Shares}
 use Rattle.rules.specs.Words.{all, keep}
 use Rattle.rules.specs.Book.{noPosition, openOf}
 use Rattle.rules.specs.Layout.{bookOf}
 use Rattle.rules.specs.Sound.{sizesFit, dueFits, dueNonzero, isDue, oneSign, balanced, dueBalanced}
 use Rattle.rules.specs.declared.Position.{Position}
 use Rattle.rules.specs.declared.Book.{Book}
-use Rattle.laws.specs.Cases.{both-hold}
+use Rattle.laws.specs.Cases.{both-hold, cond-yes, cond-no}
 use Rattle.laws.specs.Walks.{all-at}
 use Rattle.book.specs.Views.{positions-long}
 use Rattle.sound_positions.specs.Table.{nothing-length}
 use Rattle.sound_positions.specs.OneSign.{places, noClash, fitsSeen, withSign, seen-length, clash-none, clash-more, clash-found, clash-done}
-use Rattle.sound_positions.specs.Summing.{withQuantity, Summed, summed-none, summed-step, room-for}
+use Rattle.sound_positions.specs.Summing.{sumIn, withQuantity, with-sum, Summed, Room, room-read, summed-none, summed-step, room-for}
 use Rattle.sound_positions.specs.Balance.{isLater, balanced-sums, due-by}
 use Rattle.sound_positions.proofs.together.together_fit.Statement.{statement}
 use Rattle.sound_positions.proofs.together.together_fit.Tie as tie
@@ -76,6 +79,43 @@ nonzero c =
     (all-at (dueNonzero (k .day)) (take (k .records) (k .positions)) (l .i) noPosition all-nonzero
     (omega (arith, length-take-le (k .records) (k .positions) (omega (arith, positions-long bs)))))
 
+-- ── the sums after a turn ──
+
+-- what a turn tested and added
+abbrev day : tie.After-is-due Inv-loop μ-loop → ℕ
+day c = c .before .before .before .before .before .before .before .before .before .before .before .day-at .result
+
+abbrev record-at : tie.After-is-due Inv-loop μ-loop → Position
+record-at c = c .before .before .before .before .before .before .before .position-at .result
+
+today-after : (c : tie.Joined2 Inv-loop μ-loop)
+    → c .if2 .today ≡ cond (isDue (day (c .before)) (record-at (c .before))) (withQuantity (c .before .before .before .before .before .before .before .before .before .before .loop .today) (record-at (c .before))) (c .before .before .before .before .before .before .before .before .before .before .loop .today)
+today-after c =
+    let due = c .before .is-due .ensures in
+    ⊎-elim
+    (λ w. w .3 ∙ with-sum _ _ _ _ (c .before .before .security-of .ensures .0) (w .2 .ensures) ∙ sym (cond-yes _ _ (sym due ∙ w .0 .taken)))
+    (λ w. w .3 ∙ sym (cond-no _ _ (sym due ∙ w .0 .left)))
+    (c .if2 .came)
+
+later-after : (c : tie.Joined2 Inv-loop μ-loop)
+    → c .if2 .later ≡ cond (isLater (day (c .before)) (record-at (c .before))) (withQuantity (c .before .before .before .before .before .before .before .before .before .before .loop .later) (record-at (c .before))) (c .before .before .before .before .before .before .before .before .before .before .loop .later)
+later-after c =
+    let due = c .before .is-due .ensures in
+    ⊎-elim
+    (λ w. w .4 ∙ sym (cond-no _ _ (ap not (sym due ∙ w .0 .taken))))
+    (λ w. w .4 ∙ with-sum _ _ _ _ (c .before .before .security-of .ensures .0) (w .2 .ensures) ∙ sym (cond-yes _ _ (ap not (sym due ∙ w .0 .left))))
+    (c .if2 .came)
+
+room : (c : tie.After-is-due Inv-loop μ-loop) (d : Position → Bool) (sums : List Shares)
+    → Summed (keep d (take (c .before .before .before .before .before .before .before .before .before .loop .i) (book (c .before .before .before .before .before .before .before .before .before) .positions))) sums → Room (sumIn sums (c .before .security-of .result)) (record-at c)
+unfolding openOf
+room c d sums h =
+    let t = c .before .before .before .before .before .before .before .before .before in
+    let bs = t .before .before .before .before .args .b .now in
+    let k = bookOf bs in
+    room-read sums _ _ _ (c .before .security-of .ensures .0) (c .before .before .before .before .before .before .before .position-at .ensures)
+    (room-for (k .positions) (k .records) (t .loop .i) (sizes t) (omega arith) (omega (arith, positions-long bs)) (omega arith) d sums h)
+
 -- ── behind the walk ──
 
 signs : (c : tie.After-loop Inv-loop μ-loop) → true ≡ oneSign (keep (isDue (book (c .before) .day)) (openOf (book (c .before))))
@@ -95,8 +135,8 @@ unfolding openOf
 later-sums c = let e : c .before .loop .i ≡ book (c .before) .records = omega arith in rw e at (c .before .loop .inv .1 .1 .1 .1)
 
 -- the tests of the sums
-today-is : (c : tie.After-sums-zero Inv-loop μ-loop) → balanced (keep (isDue (book (c .before .before .before) .day)) (openOf (book (c .before .before .before)))) ≡ c .sums-zero .result
-today-is c = sym (c .sums-zero .ensures ∙ balanced-sums _ _ (today-sums (c .before .before)))
+today-is : (c : tie.After-sums-zero Inv-loop μ-loop) → balanced (keep (isDue (book (c .before .before) .day)) (openOf (book (c .before .before)))) ≡ c .sums-zero .result
+today-is c = sym (c .sums-zero .ensures ∙ balanced-sums _ _ (today-sums (c .before)))
 
 -- ── the needs ──
 
@@ -137,17 +177,41 @@ note-sign-requires c κs =
     let s = c .before .before .before in
     rw (s .before .before .before .before .before .day-at .ensures, s .before .position-at .ensures) (nonzero (s .before .before))
 
-add-by-day-requires : tie.Need-add-by-day-requires Inv-loop μ-loop
-unfolding openOf
-add-by-day-requires c κs =
-    let t = c .before .before .before .before .before .before .before .before .before in
-    let bs = t .before .before .before .before .args .b .now in
-    let k = bookOf bs in
-    let l = t .loop in
-    rw (c .before .before .before .before .before .before .before .position-at .ensures) (
-      room-for (k .positions) (k .records) (l .i) (sizes t) (omega arith) (omega (arith, positions-long bs)) (omega arith) (isDue (k .day)) (l .today) (l .inv .1 .1 .1 .0),
-      room-for (k .positions) (k .records) (l .i) (sizes t) (omega arith) (omega (arith, positions-long bs)) (omega arith) (isLater (k .day)) (l .later) (l .inv .1 .1 .1 .1),
-    )
+security-of-requires : tie.Need-security-of-requires Inv-loop μ-loop
+security-of-requires c κs = search needs
+
+is-due-requires : tie.Need-is-due-requires Inv-loop μ-loop
+is-due-requires c κs = search needs
+
+mul-sum : tie.Need-mul-sum Inv-loop μ-loop
+mul-sum c = search needs
+
+array-copy-out-sum : tie.Need-array-copy-out-sum Inv-loop μ-loop
+array-copy-out-sum c = search needs
+
+with-quantity-requires : tie.Need-with-quantity-requires Inv-loop μ-loop
+with-quantity-requires c κs = let t = c .before .before .before .before .before .before .before .before .before .before .before in room (c .before .before) (isDue (book t .day)) (t .loop .today) (t .loop .inv .1 .1 .1 .0)
+
+mul-today : tie.Need-mul-today Inv-loop μ-loop
+mul-today c = search needs
+
+array-set-from-today : tie.Need-array-set-from-today Inv-loop μ-loop
+array-set-from-today c = search needs
+
+mul-sum-2 : tie.Need-mul-sum-2 Inv-loop μ-loop
+mul-sum-2 c = search needs
+
+array-copy-out-sum-2 : tie.Need-array-copy-out-sum-2 Inv-loop μ-loop
+array-copy-out-sum-2 c = search needs
+
+with-quantity-requires-2 : tie.Need-with-quantity-requires-2 Inv-loop μ-loop
+with-quantity-requires-2 c κs = let t = c .before .before .before .before .before .before .before .before .before .before .before in room (c .before .before) (isLater (book t .day)) (t .loop .later) (t .loop .inv .1 .1 .1 .1)
+
+mul-later : tie.Need-mul-later Inv-loop μ-loop
+mul-later c = search needs
+
+array-set-from-later : tie.Need-array-set-from-later Inv-loop μ-loop
+array-set-from-later c = search needs
 
 add-i : tie.Need-add-i Inv-loop μ-loop
 add-i c = search needs
@@ -175,9 +239,9 @@ loop-again c =
               ∙ l .inv .1 .1 .0,
           (
             summed-step (isDue (k .day)) (k .positions) (l .i) (l .today) _ (omega (arith, positions-long bs)) (l .inv .1 .1 .1 .0)
-                (c .add-by-day .ensures .0 ∙ ap₂ (λ (d : ℕ) (p : Position). cond (isDue d p) (withQuantity (l .today) p) (l .today)) day here),
+                (today-after c ∙ ap₂ (λ (d : ℕ) (p : Position). cond (isDue d p) (withQuantity (l .today) p) (l .today)) day here),
             summed-step (isLater (k .day)) (k .positions) (l .i) (l .later) _ (omega (arith, positions-long bs)) (l .inv .1 .1 .1 .1)
-                (c .add-by-day .ensures .1 ∙ ap₂ (λ (d : ℕ) (p : Position). cond (isLater d p) (withQuantity (l .later) p) (l .later)) day here),
+                (later-after c ∙ ap₂ (λ (d : ℕ) (p : Position). cond (isLater d p) (withQuantity (l .later) p) (l .later)) day here),
           ),
         ),
       ),
@@ -188,17 +252,17 @@ sums-zero-requires c κs = search needs
 
 returns-2 : tie.Need-returns-2 Inv-loop μ-loop
 returns-2 c =
-    let e = c .before .before .before in
-    rw (← signs e, ← due-by (book (e .before)) (dues (e .before)), today-is (c .before) ∙ not-true _ (c .if2 .taken))
+    let e = c .before .before in
+    rw (← signs e, ← due-by (book (e .before)) (dues (e .before)), today-is (c .before) ∙ not-true _ (c .if3 .taken))
 
 sums-zero-requires-2 : tie.Need-sums-zero-requires-2 Inv-loop μ-loop
 sums-zero-requires-2 c κs = search needs
 
 returns-3 : tie.Need-returns-3 Inv-loop μ-loop
 returns-3 c =
-    let s = c .before .before .before in
-    let e = s .before .before in
-    rw (← signs e, ← due-by (book (e .before)) (dues (e .before)), today-is s ∙ not-false _ (c .before .before .if2 .left))
+    let s = c .before .before in
+    let e = s .before in
+    rw (← signs e, ← due-by (book (e .before)) (dues (e .before)), today-is s ∙ not-false _ (c .before .if3 .left))
     (c .sums-zero2 .ensures ∙ balanced-sums _ _ (later-sums e))
 
 pub together-fit-spec : {M : Type 1} → statement M
@@ -215,7 +279,18 @@ together-fit-spec =
     sign-fits-requires
     returns
     note-sign-requires
-    add-by-day-requires
+    security-of-requires
+    is-due-requires
+    mul-sum
+    array-copy-out-sum
+    with-quantity-requires
+    mul-today
+    array-set-from-today
+    mul-sum-2
+    array-copy-out-sum-2
+    with-quantity-requires-2
+    mul-later
+    array-set-from-later
     add-i
     loop-less
     loop-again

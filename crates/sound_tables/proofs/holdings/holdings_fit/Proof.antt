@@ -11,7 +11,7 @@ use Rattle.rules.specs.Bounds.{everySecurity}
 use Rattle.rules.specs.Layout.{bookOf}
 use Rattle.laws.specs.Walks.{all-none, all-more, all-fails, all-done}
 use Rattle.book.specs.Views.{codes-long, holdings-long}
-use Rattle.sound_positions.specs.Balance.{securities-length, security-at}
+use Rattle.laws.specs.All.{securities-length, security-at}
 use Rattle.sound_tables.specs.Held.{totalFits, held-fits}
 use Rattle.sound_tables.proofs.holdings.holdings_fit.Statement.{statement}
 use Rattle.sound_tables.proofs.holdings.holdings_fit.Tie as tie

@@ -24,7 +24,7 @@ abbrev μ-loop : tie.MeasureT-loop
 
 -- the test of a charge at a place, and that it was made of the charge at i
 abbrev fits : tie.At-loop Inv-loop μ-loop → Mils → Bool
-fits c m = stakeFits (c .before .before .args .sums .now) (c .loop .i) m
+fits c m = stakeFits (c .before .before .args .t2) (c .loop .i) m
 
 tested : (c : tie.After-stake-fits Inv-loop μ-loop) → fits (c .before .before .before .before) (getD (bookOf (c .before .before .before .before .before .before .args .b .now) .charges) (c .before .before .before .before .loop .i) (mils (pos 0))) ≡ c .stake-fits .result
 tested c = ap (fits (c .before .before .before .before)) (sym (c .before .before .charge-at .ensures)) ∙ sym (c .stake-fits .ensures)
@@ -35,11 +35,11 @@ loop-holds c = (omega arith, refl)
 charge-at-requires : tie.Need-charge-at-requires Inv-loop μ-loop
 charge-at-requires c κs = search needs
 
-mul-stake-fits : tie.Need-mul-stake-fits Inv-loop μ-loop
-mul-stake-fits c = search needs
+mul-sum : tie.Need-mul-sum Inv-loop μ-loop
+mul-sum c = search needs
 
-element-copy-out-stake-fits : tie.Need-element-copy-out-stake-fits Inv-loop μ-loop
-element-copy-out-stake-fits c = search needs
+array-copy-out-sum : tie.Need-array-copy-out-sum Inv-loop μ-loop
+array-copy-out-sum c = search needs
 
 stake-fits-requires : tie.Need-stake-fits-requires Inv-loop μ-loop
 stake-fits-requires c κs = c .before .before .before .before .before .pre .1 (c .before .before .before .loop .i) (omega arith)
@@ -48,7 +48,7 @@ returns : tie.Need-returns Inv-loop μ-loop
 returns c =
     let a = c .before .before .before .before .before .before .before .args in
     let l = c .before .before .before .before .before .loop in
-    from-fails (stakeFits (a .sums .now)) (bookOf (a .b .now) .charges) (l .i) (mils (pos 0)) (omega (arith, charges-long (a .b .now))) (l .inv .1)
+    from-fails (stakeFits (a .t2)) (bookOf (a .b .now) .charges) (l .i) (mils (pos 0)) (omega (arith, charges-long (a .b .now))) (l .inv .1)
     (tested (c .before) ∙ not-true _ (c .if1 .taken))
 
 add-i : tie.Need-add-i Inv-loop μ-loop
@@ -62,7 +62,7 @@ loop-again c =
     let a = c .before .before .before .before .before .before .before .args in
     let l = c .before .before .before .before .before .loop in (
       omega arith,
-      from-more (stakeFits (a .sums .now)) (bookOf (a .b .now) .charges) (l .i) (mils (pos 0)) (omega (arith, charges-long (a .b .now))) (l .inv .1)
+      from-more (stakeFits (a .t2)) (bookOf (a .b .now) .charges) (l .i) (mils (pos 0)) (omega (arith, charges-long (a .b .now))) (l .inv .1)
           (tested (c .before) ∙ not-false _ (c .if1 .left)),
     )
 
@@ -70,7 +70,7 @@ returns-2 : tie.Need-returns-2 Inv-loop μ-loop
 returns-2 c =
     let a = c .before .before .before .args in
     let l = c .before .loop in
-    from-done (stakeFits (a .sums .now)) (bookOf (a .b .now) .charges) (l .i) (omega (arith, charges-long (a .b .now))) (l .inv .1)
+    from-done (stakeFits (a .t2)) (bookOf (a .b .now) .charges) (l .i) (omega (arith, charges-long (a .b .now))) (l .inv .1)
 
 pub charges-fit-spec : {M : Type 1} → statement M
 charges-fit-spec =
@@ -80,8 +80,8 @@ charges-fit-spec =
     μ-loop
     loop-holds
     charge-at-requires
-    mul-stake-fits
-    element-copy-out-stake-fits
+    mul-sum
+    array-copy-out-sum
     stake-fits-requires
     returns
     add-i

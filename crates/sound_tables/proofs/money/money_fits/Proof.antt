@@ -15,8 +15,8 @@ charges-fit-requires c κs = search needs
 
 returns : tie.Need-returns
 returns c =
-    let bs = c .before .before .before .before .args .b .now in
-    c .charges-fit .ensures ∙ stakes-fit (bookOf bs) (c .before .before .open-money .result) (c .before .before .open-money .ensures .0) (charges-long bs)
+    let bs = c .before .before .before .args .b .now in
+    c .charges-fit .ensures ∙ stakes-fit (bookOf bs) (c .before .open-money .result) (c .before .open-money .ensures .0) (charges-long bs)
 
 pub money-fits-spec : {M : Type 1} → statement M
 money-fits-spec = tie.close (tie.spec open-money-requires charges-fit-requires returns)

@@ -10,9 +10,8 @@ use Rattle.units.specs.Units.{mostMils}
 use Rattle.rules.specs.Book.{noPosition, securityOf, openOf, currencyOf}
 use Rattle.rules.specs.Layout.{bookOf}
 use Rattle.rules.specs.declared.Book.{Book}
-use Rattle.laws.specs.Numbers.{account-below}
 use Rattle.book.specs.Views.{codes-long, positions-long}
-use Rattle.sound_tables.specs.Placed.{Gathered, gathered-none, gathered-more, gathered-done}
+use Rattle.sound_tables.specs.Placed.{asAmount, sumAt, Gathered, gathered-none, gathered-more, gathered-done}
 use Rattle.sound_tables.specs.Stakes.{MoneyAsks, placeOf, placeAt, sizeOf, currency-below, size-small, open-money}
 use Rattle.sound_tables.proofs.money.open_money.Statement.{statement}
 use Rattle.sound_tables.proofs.money.open_money.Tie as tie
@@ -46,9 +45,6 @@ size c =
     let bs = c .before .before .before .before .before .args .b .now in
     rw (here c) at (size-small (bookOf bs) (c .before .before .loop .i) noPosition (c .before .before .before .before .before .pre .1) (omega (arith, many bs (c .before .before .before .before .before .pre .1))))
 
-place : (c : tie.After-position-at Inv-loop μ-loop) → placeOf (bookOf (c .before .before .before .before .before .args .b .now)) (c .position-at .result) < 256
-place c = omega (arith, currency c, account-below (c .position-at .result))
-
 -- ── the needs ──
 
 records-at-requires : tie.Need-records-at-requires Inv-loop μ-loop
@@ -65,33 +61,44 @@ loop-holds c =
 position-at-requires : tie.Need-position-at-requires Inv-loop μ-loop
 position-at-requires c κs = (c .before .before .before .before .pre .0, omega (arith, c .before .before .before .before .pre .1 .records))
 
-add-money-requires : tie.Need-add-money-requires Inv-loop μ-loop
-add-money-requires c κs =
-    let p = c .before in
-    let l = c .before .before .before .loop in (
-      c .before .before .before .before .before .before .pre .0,
-      record {
-        currency = currency p;
-        fits = omega (arith, l .inv .1 .small (placeOf (bookOf (c .before .before .before .before .before .before .args .b .now)) (p .position-at .result)) (place p), size p, c .before .before .before .before .before .before .pre .1 .records);
-      },
-    )
+place-of-requires : tie.Need-place-of-requires Inv-loop μ-loop
+place-of-requires c κs = (c .before .before .before .before .before .pre .0, currency c)
+
+mul-sum : tie.Need-mul-sum Inv-loop μ-loop
+mul-sum c = search needs
+
+array-copy-out-sum : tie.Need-array-copy-out-sum Inv-loop μ-loop
+array-copy-out-sum c = search needs
+
+with-money-requires : tie.Need-with-money-requires Inv-loop μ-loop
+with-money-requires c κs =
+    let at = c .before .place-of in
+    omega (arith, c .before .before .before .before .loop .inv .1 .small (at .result) (at .ensures .1), size (c .before .before), c .before .before .before .before .before .before .before .pre .1 .records)
+
+mul-sums : tie.Need-mul-sums Inv-loop μ-loop
+mul-sums c = search needs
+
+array-set-from-sums : tie.Need-array-set-from-sums Inv-loop μ-loop
+array-set-from-sums c = search needs
 
 add-i : tie.Need-add-i Inv-loop μ-loop
-add-i c = omega (arith, c .before .before .before .before .before .before .before .pre .1 .records)
+add-i c = omega (arith, c .before .before .before .before .before .before .before .before .pre .1 .records)
 
 loop-less : tie.Need-loop-less Inv-loop μ-loop
 loop-less c = omega arith
 
 loop-again : tie.Need-loop-again Inv-loop μ-loop
 loop-again c =
-    let p = c .before .before in
-    let bs = c .before .before .before .before .before .before .before .args .b .now in
+    let p = c .before .before .before in
+    let at = c .before .before .place-of in
+    let bs = c .before .before .before .before .before .before .before .before .args .b .now in
     let k = bookOf bs in
-    let l = c .before .before .before .before .loop in (
+    let l = c .before .before .before .before .before .loop in
+    let sum : c .with-money .result ≡ asAmount (sumAt (l .sums) (at .result) + sizeOf (p .position-at .result)) = ap asAmount (c .with-money .ensures) in (
       omega arith,
-      rw (c .add-money .ensures)
-          (gathered-more (placeAt k) sizeOf 256 mostMils (l .sums) (openOf k) (l .i) noPosition (placeOf k (p .position-at .result)) (sizeOf (p .position-at .result))
-          (omega (arith, many bs (c .before .before .before .before .before .before .before .pre .1))) (ap (placeOf k) (here p)) (ap sizeOf (here p)) (place p) (size p) (l .inv .1)),
+      rw sum
+          (gathered-more (placeAt k) sizeOf 256 mostMils (l .sums) (openOf k) (l .i) noPosition (at .result) (sizeOf (p .position-at .result))
+          (omega (arith, many bs (c .before .before .before .before .before .before .before .before .pre .1))) (ap (placeOf k) (here p) ∙ sym (at .ensures .0)) (ap sizeOf (here p)) (at .ensures .1) (size p) (l .inv .1)),
     )
 
 returns : tie.Need-returns Inv-loop μ-loop
@@ -113,7 +120,12 @@ open-money-spec =
     cast-n
     loop-holds
     position-at-requires
-    add-money-requires
+    place-of-requires
+    mul-sum
+    array-copy-out-sum
+    with-money-requires
+    mul-sums
+    array-set-from-sums
     add-i
     loop-less
     loop-again

@@ -17,11 +17,11 @@ size-requires : tie.Need-size-requires
 size-requires c κs = search needs
 
 returns : tie.Need-returns
-returns c = let s = c .size .result in
-    let m = c .before .args .money in
+returns c = let s = c .before .size .result .0 in
+    let m = c .before .before .before .args .money .0 in
     by-test (leb (s + m) mostAtStake)
-    (λ e. le-leb s (mostAtStake - m) (omega (arith, leb-true (s + m) mostAtStake e)) ∙ sym (rw (← c .size .ensures) e))
-    (λ e. lt-leb s (mostAtStake - m) (omega (arith, leb-false (s + m) mostAtStake e)) ∙ sym (rw (← c .size .ensures) e))
+    (λ e. le-leb s (mostAtStake - m) (omega (arith, leb-true (s + m) mostAtStake e)) ∙ sym (rw (← c .before .size .ensures) e))
+    (λ e. lt-leb s (mostAtStake - m) (omega (arith, leb-false (s + m) mostAtStake e)) ∙ sym (rw (← c .before .size .ensures) e))
 
 pub stake-fits-spec : {M : Type 1} → statement M
 stake-fits-spec = tie.close (tie.spec sub-room size-requires returns)

@@ -12,7 +12,7 @@ use Rattle.rules.specs.Trades.{isExcluded, stands}
 use Rattle.rules.specs.Words.{any}
 use Rattle.rules.specs.declared.Trade.{Trade}
 use Rattle.book.specs.Views.{trades-long}
-use Rattle.trading.specs.Finding.{any-none, listed-more, listed-found, listed-done}
+use Rattle.laws.specs.Finding.{any-none, listed-more, listed-found, listed-done}
 use Rattle.trading.proofs.list.is_standing.Statement.{statement}
 use Rattle.trading.proofs.list.is_standing.Tie as tie
 

@@ -3,7 +3,7 @@ use borrow.Author.Needs.{needs}
 use mathlib.Core.Path.{sym, ap, _∙_}
 use mathlib.Core.Bool.{not}
 use Rattle.rules.specs.Calls.{tests, answerSound}
-use Rattle.trading.specs.Ways.{through, stop, pass, answer, fault-first, fine-first}
+use Rattle.laws.specs.Ways.{through, stop, pass, answer, fault-first, fine-first}
 use Rattle.trading.proofs.refusals.amend_refusal.Statement.{statement}
 use Rattle.trading.proofs.refusals.amend_refusal.Tie as tie
 

@@ -7,7 +7,7 @@ use Rattle.rules.specs.Bounds.{mostTrades}
 use Rattle.rules.specs.Layout.{bookOf}
 use Rattle.rules.specs.Calls.{tests, answerSound}
 use Rattle.laws.specs.Cases.{or-left, or-right}
-use Rattle.trading.specs.Ways.{through, stop, pass, answer, fault-first, fine-first, both-fail}
+use Rattle.laws.specs.Ways.{through, stop, pass, answer, fault-first, fine-first, both-fail}
 use Rattle.trading.proofs.refusals.enter_refusal.Statement.{statement}
 use Rattle.trading.proofs.refusals.enter_refusal.Tie as tie
 

@@ -4,7 +4,7 @@ use mathlib.Core.Path.{_≡_, sym, _∙_}
 use Rattle.rules.specs.Layout.{bookOf}
 use Rattle.rules.specs.Trades.{badSecurity}
 use Rattle.rules.specs.Calls.{fieldTests}
-use Rattle.trading.specs.Ways.{through, stop, pass, answer}
+use Rattle.laws.specs.Ways.{through, stop, pass, answer}
 use Rattle.trading.proofs.refusals.field_refusal.Statement.{statement}
 use Rattle.trading.proofs.refusals.field_refusal.Tie as tie
 

@@ -1,0 +1,1 @@
+-- The whole book is proved with the laws of `book`.

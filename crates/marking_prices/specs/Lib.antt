@@ -1,0 +1,3 @@
+-- What the proofs are made of: laws of `any`, the price tables.
+pub mod Looking
+pub mod Pricing

@@ -1,0 +1,2 @@
+-- A meeting on two records.
+pub mod Meeting
