@@ -36,7 +36,7 @@ past n kind h z = omega (arith, z)
 pub record Stands (bs : List ℕ) (kind : ℕ) : Type 0 where
   pub whole : is_cut bs ≡ false
   pub kind_of : field 1 2 bs ≡ kind
-  pub long_of_lem : length_of bs ≡ long_of kind
+  pub long_of : length_of bs ≡ long_of kind
 
 -- what the search for a kind finds: 8 for nothing that can be read
 pub record Found (bs : List ℕ) (kind : ℕ) : Type 0 where
@@ -138,7 +138,7 @@ module _ (place : ℕ) (file : List ℕ) where
             some = λ q. record {
               whole = whole_front (drop place file) (omega (arith, length-drop place file, long_at));
               kind_of = kind_at;
-              long_of_lem = long_at ∙ sym g;
+              long_of = long_at ∙ sym g;
             };
           }
 

@@ -5,7 +5,7 @@ ghost use Rattle.exact.specs.MulDiv.{limit, mul_div, Divisor, Digits};
 ghost use Rattle.exact.specs.Rounding.{round_down, round_up, capped, raised};
 
 // The quotient and the remainder, or that the quotient passes 9*10^18.
-#[derive(Drop)]
+#[derive(Clone, Copy)]
 pub enum MulDiv {
     Done(u64, u64),
     TooBig,
@@ -71,7 +71,7 @@ pub fn mul_div(a: u64, b: u64, d: u64) -> MulDiv
 }
 
 // A rounded quotient, or that it passes 9*10^18.
-#[derive(Drop)]
+#[derive(Clone, Copy)]
 pub enum Rounded {
     To(u64),
     Past,

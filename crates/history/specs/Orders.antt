@@ -5,6 +5,7 @@ use Rattle.std.proofs.Math.Bool.{Bool-set}
 use Rattle.std.proofs.Math.Logic.{∥∥₁_elim}
 use mathlib.Core.List.{List, Perm, Permᴰ}
 use Rattle.std.proofs.Math.Nat.{ℕ_set}
+use Rattle.std.specs.Prelude.{◌∷◌}
 use Rattle.rules.specs.Words.{all}
 use Rattle.rules.specs.Sound.{distinct}
 use Rattle.laws.specs.Cases.{eqb_swap, and_mix}
@@ -39,12 +40,16 @@ all_order t l m p = ∥∥₁_elim p (Bool-set (all t l) (all t m)) (λ q. all_o
 
 -- ── distinct numbers ──
 
+distinct_swapped : (a b : ℕ) (l : List ℕ) → distinct (a ∷ b ∷ l) ≡ distinct (b ∷ a ∷ l)
+unfolding distinct all
+distinct_swapped a b l =
+    rw (eqb_swap b a) (and_mix (not (eqb a b)) (all (λ m. not (eqb a m)) l) (all (λ m. not (eqb b m)) l) (distinct l))
+
 distinct_orderᴰ : {l m : List ℕ} → Permᴰ l m → distinct l ≡ distinct m
 unfolding distinct all
 distinct_orderᴰ Permᴰ.nil = refl
 distinct_orderᴰ (Permᴰ.cons {a = a} e q) = rw (sym e) (ap₂ ◌&&◌ (all_orderᴰ (λ m. not (eqb a m)) q) (distinct_orderᴰ q))
-distinct_orderᴰ (Permᴰ.swap {a = a} {b = b} {l = l} e f) =
-    rw (sym e, sym f, eqb_swap b a) (and_mix (not (eqb a b)) (all (λ m. not (eqb a m)) l) (all (λ m. not (eqb b m)) l) (distinct l))
+distinct_orderᴰ (Permᴰ.swap {a = a} {b = b} {l = l} e f) = distinct_swapped a b l ∙ ap₂ (λ (x y : ℕ). distinct (x ∷ y ∷ l)) f e
 distinct_orderᴰ (Permᴰ.trans q r) = distinct_orderᴰ q ∙ distinct_orderᴰ r
 
 pub distinct_order : (l m : List ℕ) → Perm l m → distinct l ≡ distinct m

@@ -1,7 +1,7 @@
 -- Each call answers 0 or one of its own refusal numbers (document 01, "Refusal numbers": which call each number belongs to, and the order of the checks).
 use Rattle.std.specs.Prelude.{◌≡◌, Bool, true, false, cond, ◌&&◌, ◌||◌, List, [], ◌∷◌, map, ℕ, ◌+◌, eqb, leb, length, drop}
 use Rattle.std.proofs.Math.Path.{refl}
-use Rattle.std.proofs.Common.{eq-eqb}
+use Rattle.std.proofs.Common.{ap, ◌∙◌, eq-eqb}
 use Rattle.rules.specs.Words.{any, Test, first}
 use Rattle.rules.specs.Bounds.{most_tally}
 use Rattle.rules.specs.Layout.{book_of}
@@ -44,13 +44,22 @@ more_numbers : (ns : List ℕ) (m n : ℕ) → is_zero_or ns n ≡ true → is_z
 unfolding is_zero_or any
 more_numbers ns m n e = by_test (eqb 0 n) (λ y. rw y) (λ z. rw z (or_right (eqb m n) (rw z at e)))
 
+first_taken : (t : Test) (ts : List Test) → t.0 ≡ true → first (t ∷ ts) ≡ t.1
+unfolding first
+first_taken t ts y = rw y
+
+first_passed : (t : Test) (ts : List Test) → t.0 ≡ false → first (t ∷ ts) ≡ first ts
+unfolding first
+first_passed t ts n = rw n
+
 first_one : (ts : List Test) → is_zero_or (map (λ t. t.1) ts) (first ts) ≡ true
 unfolding is_zero_or any first
 first_one [] = refl
 first_one (t ∷ ts) =
+    let numbers = map {B = ℕ} (λ (u : Test). u.1) (t ∷ ts) in
     by_test t.0
-    (λ y. rw y (or_right (eqb 0 t.1) (or_left (any (λ m. eqb m t.1) (map (λ u. u.1) ts)) (eq-eqb t.1 t.1 refl))))
-    (λ n. rw n (more_numbers (map (λ u. u.1) ts) t.1 (first ts) (first_one ts)))
+    (λ y. ap (is_zero_or numbers) (first_taken t ts y) ∙ or_right (eqb 0 t.1) (or_left (any (λ m. eqb m t.1) (map (λ u. u.1) ts)) (eq-eqb t.1 t.1 refl)))
+    (λ n. ap (is_zero_or numbers) (first_passed t ts n) ∙ more_numbers (map (λ u. u.1) ts) t.1 (first ts) (first_one ts))
 
 -- 18 or 0
 either_18 : (b : Bool) → is_zero_or (18 ∷ []) (cond b 18 0) ≡ true

@@ -2,7 +2,7 @@
 use units::{Mils, Price, Shares};
 
 // An open position, a record of the position table. Its number says due day, account and security.
-#[derive(Drop)]
+#[derive(Clone, Copy)]
 pub struct Position {
     pub number: u32,
     pub quantity: Shares,
@@ -10,7 +10,7 @@ pub struct Position {
 }
 
 // A trade of today's list. An excluded one keeps its number, its other fields are zero.
-#[derive(Drop)]
+#[derive(Clone, Copy)]
 pub struct Trade {
     pub number: u16,
     pub buyer: u8,
@@ -35,14 +35,14 @@ pub struct Book {
 }
 
 // The answer of a run: the shares moved, or the refusal.
-#[derive(Drop)]
+#[derive(Clone, Copy)]
 pub enum RunAnswer {
     Moved(Shares),
     RunRefused(u8),
 }
 
 // The answer of marks: the due and the four sums, or the refusal.
-#[derive(Drop)]
+#[derive(Clone, Copy)]
 pub enum MarksAnswer {
     Due(Mils, Mils, Mils, Mils, Mils),
     MarksRefused(u8),
@@ -50,7 +50,7 @@ pub enum MarksAnswer {
 
 // The answer of one record of a call file: the call's own answer, the shares moved if it was a run, and the place of
 // the next record; or the place where an unreadable record begins; or that the file ends here; or the file's refusal.
-#[derive(Drop)]
+#[derive(Clone, Copy)]
 pub enum RecordAnswer {
     Answered(u8, Shares, u32),
     Unreadable(u32),
@@ -59,7 +59,7 @@ pub enum RecordAnswer {
 }
 
 // A line of the sheet.
-#[derive(Drop)]
+#[derive(Clone, Copy)]
 pub enum Line {
     Refusal(u32, u8),
     Place(u32),
@@ -70,7 +70,7 @@ pub enum Line {
 }
 
 // The lines and the bytes written so far.
-#[derive(Drop)]
+#[derive(Clone, Copy)]
 pub struct Tally {
     pub lines: u32,
     pub bytes: u32,

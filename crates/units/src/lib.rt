@@ -5,25 +5,25 @@ mod number;
 mod stock;
 
 // A signed whole number.
-#[derive(Drop)]
+#[derive(Clone, Copy)]
 pub struct Whole(pub i64);
 
 // Shares: above zero the account receives them, below zero it delivers them.
-#[derive(Drop)]
+#[derive(Clone, Copy)]
 pub struct Shares(pub Whole);
 
 // Money in mils, thousandths of a currency unit: above zero the account pays it, below zero it receives it.
-#[derive(Drop)]
+#[derive(Clone, Copy)]
 pub struct Mils(pub Whole);
 
 // Shares without a direction: what is held, owed, wanted or given.
-#[derive(Drop)]
+#[derive(Clone, Copy)]
 pub struct Quantity(pub u64);
 
 // Money in mils without a direction: how large an amount is.
-#[derive(Drop)]
+#[derive(Clone, Copy)]
 pub struct Amount(pub u64);
 
 // A price in mils per share.
-#[derive(Drop)]
+#[derive(Clone, Copy)]
 pub struct Price(pub u32);

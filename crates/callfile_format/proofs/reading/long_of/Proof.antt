@@ -1,4 +1,4 @@
--- `callfile_format::reading::long_of_lem` meets its contract: kind by kind. Assumes nothing.
+-- `callfile_format::reading::long_of` meets its contract: kind by kind. Assumes nothing.
 use native.Mathlib.Omega.{arith}
 use Rattle.callfile_format.specs.Kinds.{long_of, long_is, no_kind, past}
 use Rattle.callfile_format.proofs.reading.long_of.Statement.{statement}
