@@ -1,5 +1,7 @@
 // The book in lent bytes (document 01: the layout of docs/BOOK.md). A call reads and writes single parts where they stand,
 // and leaves the other bytes alone. Each table has a module, with what reads it and what writes it.
+#![tactic(auto)]
+
 mod charges;
 mod codes;
 mod holdings;

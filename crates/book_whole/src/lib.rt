@@ -1,5 +1,7 @@
 // The whole book as a value and back (the layout of docs/BOOK.md): a new book is stored whole, and a sheet loads the book that it has played, and
 // stores it. Calls on a book read and write its parts where they stand (`book`).
+#![tactic(auto)]
+
 ghost use Rattle.std.specs.Prelude.{◌≡◌, length};
 ghost use Rattle.rules.specs.Layout.{book_of, bytes_of, book_length};
 

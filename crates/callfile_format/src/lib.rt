@@ -1,4 +1,6 @@
 // The format of the call file (document 01, "Call file and sheet"): how it is framed, and what stands at a place of it.
+#![tactic(auto)]
+
 mod framing;
 mod reading;
 

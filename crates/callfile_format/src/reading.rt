@@ -14,7 +14,7 @@ use sound_tables::is_code;
 use units::Price;
 
 // The codes of a create are not copied: they are the 32 bytes behind its kind.
-#[derive(Drop)]
+#[derive(Clone, Copy)]
 pub enum Read {
     Create,
     Enter(Trade),

@@ -1,5 +1,7 @@
 // A product of two 64-bit numbers, divided and rounded: exact, though the product may pass 64 bits. Document 01
 // asks for it where a sum of marks is converted, and for the limit 9*10^18 found exactly (refusal 16).
+#![tactic(auto)]
+
 ghost use Rattle.std.specs.Prelude.{◌≡◌, ◌+◌, ◌*◌, ◌/◌, ◌%◌, ◌≤◌, ◌<◌, ltb};
 ghost use Rattle.exact.specs.MulDiv.{limit, mul_div, Divisor, Digits};
 ghost use Rattle.exact.specs.Rounding.{round_down, round_up, capped, raised};

@@ -1,5 +1,7 @@
 // The public calls over lent bytes (document 01, "Refusal numbers" and the rules of each call). None requires anything
 // of its caller: every input is answered, and a refused call leaves each byte as it was.
+#![tactic(auto)]
+
 mod creation;
 mod holdings;
 mod marked;

@@ -1,4 +1,6 @@
 // Marks (document 01, "Marks"): the tests in their order, and the answer.
+#![tactic(auto)]
+
 mod answer;
 mod terms;
 mod unpriced;

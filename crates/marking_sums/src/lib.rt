@@ -1,5 +1,7 @@
 // The sums of marks (document 01, "Marks"): the marks of an account's records, summed per currency, and what the sums count in
 // the base currency.
+#![tactic(auto)]
+
 mod conversion;
 mod marks;
 

@@ -30,7 +30,7 @@ fn mark(p: Position, intraday: &[u8], closing: &[u8]) -> Mils
 }
 
 // The sum of the marks of each currency.
-#[derive(Drop)]
+#[derive(Clone, Copy)]
 pub struct PerCurrency {
     pub sums: [Mils; 4],
 }

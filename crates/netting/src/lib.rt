@@ -1,5 +1,7 @@
 // The day roll up to its offsetting (document 01, "From trades to positions"): "charges are set to zero; today's nets become
 // positions due in two days; the list is emptied; the day goes up by one".
+#![tactic(auto)]
+
 mod nets;
 mod steps;
 

@@ -13,7 +13,7 @@ use rules::Position;
 use units::{Mils, Shares};
 
 // The two records after they met, and the charge of their account in the currency of their security.
-#[derive(Drop)]
+#[derive(Clone, Copy)]
 pub struct Met {
     pub older: Position,
     pub newly: Position,

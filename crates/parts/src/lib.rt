@@ -1,5 +1,7 @@
 // What roll and run have in common (document 01, "From trades to positions", "Settlement run"): a part is taken from a
 // record, its money is charged, and records at 0 shares go.
+#![tactic(auto)]
+
 mod packing;
 mod places;
 mod taking;

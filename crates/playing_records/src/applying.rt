@@ -13,7 +13,7 @@ use fields::put;
 use rules::RunAnswer;
 
 // The number, and the figure: the shares that a run moved, or the place of a 19.
-#[derive(Drop)]
+#[derive(Clone, Copy)]
 pub struct Answer {
     pub number: u8,
     pub figure: u64,

@@ -1,4 +1,6 @@
 // The records of a call file, one by one (document 01, "Call file and sheet"): where the next one stands, its call on the book, its answer.
+#![tactic(auto)]
+
 mod again;
 mod applying;
 mod walking;

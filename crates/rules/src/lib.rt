@@ -22,7 +22,7 @@ pub struct Trade {
 
 // The book: how many records the position table has, and the table; how many numbers today's list has, and the list.
 // Holdings stand at account * 32 + security, charges at account * 4 + currency.
-#[derive(Drop)]
+#[derive(Clone, Copy)]
 pub struct Book {
     pub day: u16,
     pub currency: [u8; 32],

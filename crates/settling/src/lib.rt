@@ -1,5 +1,7 @@
 // The settlement run (document 01, "Settlement run" and "Refusal numbers"): what a sound book answers, and the book that
 // an accepted run leaves.
+#![tactic(auto)]
+
 mod moving;
 mod run;
 mod walk;

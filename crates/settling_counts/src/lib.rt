@@ -1,5 +1,7 @@
 // What a settlement run counts (document 01, "Settlement run"): what a record owes, wants and can give, the deliverable shares, and what the
 // receivers want together.
+#![tactic(auto)]
+
 mod counts;
 mod sides;
 

@@ -1,5 +1,7 @@
 // The whole sheet as one call (document 01, "Call file and sheet"): a file is played on a room of its own, so that
 // nothing is altered where the sheet does not fit.
+#![tactic(auto)]
+
 ghost use Rattle.std.specs.Prelude.{◌≡◌, cond, ◌++◌, ◌≤◌, length, drop};
 ghost use Rattle.rules.specs.Words.{each};
 ghost use Rattle.rules.specs.Bounds.{most_file};

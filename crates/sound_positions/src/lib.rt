@@ -1,6 +1,8 @@
 // The test for soundness, as far as it goes by the position table (document 01, "A sound book"): a module for each
 // group of its sentences. Each test reads the lent bytes of a book and is the rule's for every book; it may count on
 // what the sentences before it say.
+#![tactic(auto)]
+
 mod balance;
 mod due;
 mod each;

@@ -1,6 +1,8 @@
 // The test for soundness (document 01, "A sound book"): all but the order and the signs of the position table.
 // Each test is a sentence of that section, read off the lent bytes of a book, and equals its definition for every book
 // that has passed those before it.
+#![tactic(auto)]
+
 mod codes;
 mod day;
 mod faults;

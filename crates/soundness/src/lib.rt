@@ -1,6 +1,8 @@
 // The test for soundness (document 01, "A sound book"): all its sentences, read off the lent bytes of a book; no table is
 // copied. Sentences that look at the same entries are tested in one walk over them. A later test counts on what the
 // earlier ones have shown.
+#![tactic(auto)]
+
 ghost use Rattle.std.specs.Prelude.{◌≡◌, length};
 ghost use Rattle.rules.specs.Layout.{book_length, book_of};
 ghost use Rattle.rules.specs.Sound.{sound, not_sound};

@@ -1,5 +1,7 @@
 // Shares, money in mils and prices in mils per share (document 01, "What the book covers"): a type each,
 // so that shares handed over where money is due do not compile. What they count is a `Whole`, a signed number.
+#![tactic(auto)]
+
 mod money;
 mod number;
 mod stock;

@@ -1,0 +1,7 @@
+-- `book::codes::codes_of` meets its contract. Assumes nothing.
+use borrow.Author.Rules.{rules}
+use Rattle.book.specs.Views.{codes_view}
+use Rattle.book.proofs.codes.codes_of.Goals as goal
+
+pub returns : goal.returns
+returns c = codes_view _ _ c.codes_at.ensures

@@ -1,0 +1,7 @@
+-- `book::holdings::holding_at` meets its contract. Assumes nothing.
+use borrow.Author.Rules.{rules}
+use Rattle.book.specs.Views.{holding_view}
+use Rattle.book.proofs.holdings.holding_at.Goals as goal
+
+pub returns : goal.returns
+returns c = holding_view _ _ _ c.requires.1 c.word.ensures

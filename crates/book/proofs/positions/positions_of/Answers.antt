@@ -1,0 +1,7 @@
+-- `book::positions::positions_of` meets its contract. Assumes nothing.
+use borrow.Author.Rules.{rules}
+use Rattle.book.specs.Views.{positions_view}
+use Rattle.book.proofs.positions.positions_of.Goals as goal
+
+pub returns : goal.returns
+returns c = positions_view _ _ c.positions_at.ensures

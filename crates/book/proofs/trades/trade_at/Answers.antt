@@ -1,0 +1,7 @@
+-- `book::trades::trade_at` meets its contract. Assumes nothing.
+use borrow.Author.Rules.{rules}
+use Rattle.book.specs.Views.{trade_view}
+use Rattle.book.proofs.trades.trade_at.Goals as goal
+
+pub returns : goal.returns
+returns c = trade_view _ _ _ c.requires.1 c.row_at.ensures

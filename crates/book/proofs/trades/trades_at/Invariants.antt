@@ -1,0 +1,16 @@
+-- `book::trades::trades_at` meets its contract. The invariant: the first i rows are those that the layout reads. Assumes nothing.
+use borrow.Author.Rules.{rules}
+use native.Mathlib.Omega.{arith}
+use mathlib.Core.Path.{◌≡◌, refl}
+use Prim.Native.Nat.{◌≤◌, ◌-◌}
+use lib.ListN.{length, take, drop, length-set}
+use Rattle.fields.specs.Codec.{read_rows, read_none, read_more, read_done}
+use Rattle.rules.specs.Layout.{trade}
+use Rattle.book.specs.Places.{trades_place}
+use Rattle.book.proofs.trades.trades_at.Given as goal
+
+abbrev pub invariant-loop-i : goal.invariant-loop-i
+invariant-loop-i l = (l.i ≤ 256) × ((length l.t ≡ 256) × (take l.i l.t ≡ read_rows trade l.i (drop trades_place l.b)))
+
+abbrev pub decreases-loop-i : goal.decreases-loop-i
+decreases-loop-i l = 256 - l.i

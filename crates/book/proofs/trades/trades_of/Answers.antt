@@ -1,0 +1,7 @@
+-- `book::trades::trades_of` meets its contract. Assumes nothing.
+use borrow.Author.Rules.{rules}
+use Rattle.book.specs.Views.{trades_view}
+use Rattle.book.proofs.trades.trades_of.Goals as goal
+
+pub returns : goal.returns
+returns c = trades_view _ _ c.trades_at.ensures

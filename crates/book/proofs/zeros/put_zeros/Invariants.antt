@@ -1,0 +1,14 @@
+-- `book::zeros::put_zeros` meets its contract. The invariant: the zeros that are left, stored, make what the contract says. Assumes nothing.
+use native.Mathlib.Omega.{arith}
+use mathlib.Core.Path.{◌≡◌, refl, ◌∙◌}
+use Prim.Native.Nat.{◌≤◌, ◌-◌}
+use lib.ListN.{length, replicate, length-set}
+use Rattle.fields.specs.Field.{stored}
+use Rattle.book.specs.Changing.{zeros_more, zeros_done}
+use Rattle.book.proofs.zeros.put_zeros.Given as goal
+
+abbrev pub invariant-loop-i : goal.invariant-loop-i
+invariant-loop-i l = (l.i ≤ l.to) × ((length l.b ≡ length l.initial.b) × (stored l.b l.i (replicate (l.to - l.i) 0) ≡ stored l.initial.b l.from (replicate (l.to - l.from) 0)))
+
+abbrev pub decreases-loop-i : goal.decreases-loop-i
+decreases-loop-i l = l.to - l.i

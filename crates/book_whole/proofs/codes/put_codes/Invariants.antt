@@ -1,0 +1,18 @@
+-- `book_whole::codes::put_codes` meets its contract. The invariant: the first i codes are stored, and the bytes keep their length. Assumes nothing.
+use borrow.Author.Rules.{rules}
+use native.Mathlib.Omega.{arith}
+use mathlib.Core.Path.{◌≡◌, refl}
+use Prim.Native.Nat.{◌≤◌, ◌-◌}
+use lib.ListN.{length, take}
+use Rattle.fields.specs.Field.{stored}
+use Rattle.fields.specs.FieldLaws.{length_digits}
+use Rattle.fields.specs.Codec.{number, write_rows, write_none, write_more, write_done}
+use Rattle.book.specs.Places.{codes_place}
+use Rattle.book.specs.Writing.{digits_written}
+use Rattle.book_whole.proofs.codes.put_codes.Given as goal
+
+abbrev pub invariant-loop-i : goal.invariant-loop-i
+invariant-loop-i l = (l.i ≤ 32) × ((length l.b ≡ length l.initial.b) × (l.b ≡ stored l.initial.b codes_place (write_rows (number 1) (take l.i l.t))))
+
+abbrev pub decreases-loop-i : goal.decreases-loop-i
+decreases-loop-i l = 32 - l.i

@@ -1,0 +1,16 @@
+-- `book_whole::holdings::holdings_at` meets its contract. The invariant: the first i holdings are those that the layout reads. Assumes nothing.
+use borrow.Author.Rules.{rules}
+use native.Mathlib.Omega.{arith}
+use mathlib.Core.Path.{◌≡◌, refl}
+use Prim.Native.Nat.{◌≤◌, ◌-◌}
+use lib.ListN.{length, take, drop, length-set}
+use Rattle.fields.specs.Codec.{number, read_rows, read_none, read_more, read_done}
+use Rattle.book.specs.Places.{holdings_place}
+use Rattle.book.specs.Reading.{number_read}
+use Rattle.book_whole.proofs.holdings.holdings_at.Given as goal
+
+abbrev pub invariant-loop-i : goal.invariant-loop-i
+invariant-loop-i l = (l.i ≤ 2_048) × ((length l.t ≡ 2_048) × (take l.i l.t ≡ read_rows (number 8) l.i (drop holdings_place l.b)))
+
+abbrev pub decreases-loop-i : goal.decreases-loop-i
+decreases-loop-i l = 2_048 - l.i

@@ -1,0 +1,15 @@
+-- `fields::put` meets its contract: the stores that are left, of the digits that are left, make what the contract says.
+use borrow.Author.Rules.{rules}
+use mathlib.Core.Path.{◌≡◌, ◌∙◌}
+use Prim.Native.Nat.{◌≤◌}
+use native.Mathlib.Omega.{arith}
+use lib.ListN.{length, length-set}
+use Rattle.fields.specs.Field.{digits, stored}
+use Rattle.fields.specs.FieldLaws.{put_more, put_done}
+use Rattle.fields.proofs.put.Given as goal
+
+abbrev pub invariant-loop-i : goal.invariant-loop-i
+invariant-loop-i l = (l.i ≤ l.w) × ((length l.b ≡ length l.initial.b) × (stored l.b l.at (digits l.i l.rest) ≡ stored l.initial.b l.at (digits l.w l.x)))
+
+abbrev pub decreases-loop-i : goal.decreases-loop-i
+decreases-loop-i l = l.i

@@ -1,0 +1,11 @@
+-- `house::settlement::roll` meets its contract: no sound book, or the call's own answer. Assumes nothing.
+use borrow.Author.Rules.{rules}
+use mathlib.Core.Path.{sym, ◌∙◌}
+use Rattle.house.specs.Lent.{unsound}
+use Rattle.house.proofs.settlement.roll.Goals as goal
+
+pub returns-then-not_sound : goal.returns-then-not_sound
+returns-then-not_sound c = unsound _ (sym c.not_sound.ensures ∙ c.if-not_sound.true) _
+
+pub roll-requires : goal.roll-requires
+roll-requires c = sym c.not_sound.ensures ∙ c.if-not_sound.false

@@ -1,0 +1,33 @@
+-- `marking_sums::conversion::favourable_total` meets its contract. The total is that of the currencies before c. Assumes nothing.
+use borrow.Author.Rules.{rules}
+use mathlib.Core.Path.{◌≡◌}
+use Prim.Native.Nat.{◌-◌, ◌≤◌}
+use native.Mathlib.Omega.{arith}
+use lib.ListN.{take}
+use Rattle.exact.specs.Rounding.{capped}
+use Rattle.rules.specs.Words as words
+use Rattle.rules.specs.Bounds.{every_currency}
+use Rattle.marking_sums.specs.Converting.{favourable_in, favourable_sum, total_none, total_more, total_done}
+use Rattle.marking_sums.proofs.conversion.favourable_total.Goals as goal
+
+pub loop-c-init : goal.loop-c-init
+loop-c-init c = (omega arith, total_none _)
+
+pub favourable_at-requires : goal.favourable_at-requires
+favourable_at-requires c =
+    let l = c.loop-c in
+    let h = c.requires in
+    (omega (arith, h.rates_long), omega (arith, h.haircuts_long), h.each l.c (omega arith))
+
+pub loop-c-preserved : goal.loop-c-preserved
+loop-c-preserved c =
+    let l = c.loop-c in
+    let a = c.args in
+    (omega arith, total_more (favourable_in a.t.sums a.rates.now a.haircuts.now) l.c l.total _ _ (omega arith) l.invariant.1 c.favourable_at.ensures c.sum_of-total.ensures)
+
+pub returns : goal.returns
+unfolding favourable_sum
+returns c =
+    let l = c.loop-c in
+    let a = c.args in
+    total_done (favourable_in a.t.sums a.rates.now a.haircuts.now) l.c l.total (omega arith) l.invariant.1

@@ -1,0 +1,25 @@
+-- `parts::taking::rest_of` meets its contract. Assumes nothing.
+use borrow.Author.Rules.{rules}
+use mathlib.Core.Path.{◌≡◌, ap, ◌∙◌}
+use Prim.Native.Nat.{ℕ}
+use lib.IntN.{ℤ, ◌-ℤ◌}
+use Rattle.integers.specs.Signs.{toward_zero}
+use Rattle.units.specs.Units.{shares_of, mils_of, shares, mils}
+use Rattle.units.specs.declared.Shares.{Shares}
+use Rattle.units.specs.declared.Mils.{Mils}
+use Rattle.rules.specs.Book.{quantity_of, money_of}
+use Rattle.rules.specs.Parts.{part_money, without}
+use Rattle.rules.specs.declared.Position.{Position}
+use Rattle.parts.proofs.taking.rest_of.Goals as goal
+
+-- a record of the same number, by its quantity and its money
+rest_is : (p : Position) (k : ℕ) (q : Shares) (m : Mils) → shares_of q ≡ toward_zero (quantity_of p) k → mils_of m ≡ money_of p -ℤ part_money p k
+    → ◌≡◌ {A = Position} (record { number = p.number; quantity = q; money = m }) (without p k)
+unfolding without
+rest_is p k q m eq em = λ i. record { number = p.number; quantity = shares (eq i); money = mils (em i) }
+
+pub returns : goal.returns
+returns c =
+    let p = c.args.p in
+    rest_is p _ _ _ c.toward_zero-quantity.ensures.0
+    (c.minus-money.ensures.0 ∙ ap (λ (z : ℤ). money_of p -ℤ z) c.part_of-gone.ensures.0)

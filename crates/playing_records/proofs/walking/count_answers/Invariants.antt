@@ -1,0 +1,15 @@
+-- `playing_records::walking::count_answers` meets its contract: the answers counted and those of what is left are all. Assumes nothing.
+use borrow.Author.Rules.{rules}
+use mathlib.Core.Path.{sym, ◌∙◌}
+use Prim.Native.Nat.{◌-◌}
+use native.Mathlib.Omega.{arith}
+use lib.ListN.{length}
+use Rattle.playing_records.specs.First.{version_there}
+use Rattle.playing_records.specs.Counting.{count_other, Counting, count_begins, count_more, count_done}
+use Rattle.playing_records.proofs.walking.count_answers.Given as goal
+
+abbrev pub invariant-loop-place : goal.invariant-loop-place
+invariant-loop-place l = Counting l.file l.count l.place
+
+abbrev pub decreases-loop-place : goal.decreases-loop-place
+decreases-loop-place l = length l.file - l.place

@@ -1,0 +1,66 @@
+-- `sheet::answers::put_answers` meets its contract: the lines from record i on are left. Assumes nothing.
+use mathlib.Core.Path.{◌≡◌, refl, sym, ap, ap₂, ◌∙◌}
+use mathlib.Core.Bool.{true}
+use Prim.Native.Nat.{◌-◌, ◌≤◌}
+use native.Mathlib.Omega.{arith}
+use lib.ListN.{length}
+use borrow.Author.Rules.{rules}
+use Rattle.rules.specs.Words.{all}
+use Rattle.rules.specs.Sheet.{answer_lines}
+use Rattle.sheet.specs.Written.{Going, going_start, going_ready, going_next, going_done}
+use Rattle.sheet.specs.Answers.{answer, answersIn, answers_left, linesLeft, placeFits, left-first, left-more, left-done, fits_more}
+use Rattle.sheet.proofs.answers.put_answers.Goals as goal
+
+pub loop-i-init : goal.loop-i-init
+loop-i-init c =
+    let first = left-first c.args.count c.args.answers.now in
+    (omega arith, refl, ap (all placeFits) (sym first) ∙ c.requires.2, going_start _ _ _ _ _ _ c.requires.3 (ap (answer_lines 0) first))
+
+pub overflow_add-next : goal.overflow_add-next
+overflow_add-next c = omega arith
+
+pub overflow_mul-i : goal.overflow_mul-i
+overflow_mul-i c = omega (arith, c.requires.1)
+
+pub get-number-requires : goal.get-number-requires
+get-number-requires c = omega (arith, c.requires.0)
+
+pub overflow_mul-i-in-loop-i : goal.overflow_mul-i-in-loop-i
+overflow_mul-i-in-loop-i c = omega (arith, c.requires.1)
+
+pub overflow_add-i : goal.overflow_add-i
+overflow_add-i c = omega (arith, c.requires.1)
+
+pub get-figure-requires : goal.get-figure-requires
+get-figure-requires c = omega (arith, c.requires.0)
+
+pub overflow_cast-i : goal.overflow_cast-i
+overflow_cast-i c = omega (arith, c.requires.1)
+
+pub put_answer-tally-requires : goal.put_answer-tally-requires
+put_answer-tally-requires c =
+    let l = c.loop-i in
+    let h = c.loop-i-test.true in
+    let is = ap₂ answer c.get-number.ensures.0 c.get-figure.ensures.0 in
+    let now = fits_more c.args.count c.args.answers.now l.i h l.invariant.2 in
+    (going_ready _ _ _ _ _ _ _ _ _ _ _ l.invariant.1 c.requires.3 l.invariant.3 (left-more _ _ _ _ h is), ap placeFits is ∙ now.0)
+
+pub loop-i-smaller : goal.loop-i-smaller
+loop-i-smaller c = omega arith
+
+pub loop-i-preserved : goal.loop-i-preserved
+loop-i-preserved c =
+    let l = c.loop-i in
+    let h = c.loop-i-test.true in
+    let is = ap₂ answer c.get-number.ensures.0 c.get-figure.ensures.0 in
+    let put = c.put_answer-tally in (
+      omega arith,
+      put.auto.0 ∙ l.invariant.1,
+      (fits_more c.args.count c.args.answers.now l.i h l.invariant.2).1,
+      going_next _ _ _ _ _ _ _ _ _ _ _ l.invariant.3 (left-more _ _ _ _ h is) put.ensures,
+    )
+
+pub returns : goal.returns
+returns c =
+    let l = c.loop-i in
+    going_done _ _ _ _ _ _ _ l.invariant.3 (left-done _ _ l.i (omega arith))

@@ -1,0 +1,47 @@
+-- `sheet::charges::put_charges` meets its contract: the lines from place i on are left. Assumes nothing.
+use mathlib.Core.Path.{◌≡◌, refl, ◌∙◌}
+use Prim.Native.Nat.{◌-◌, ◌≤◌}
+use native.Mathlib.Omega.{arith}
+use lib.ListN.{length}
+use Rattle.sheet.specs.Written.{Going, going_start, going_ready, going_next, going_done}
+use Rattle.sheet.specs.BookLines.{entry_lines, charges_left, charges_first, charges_more, charges_done}
+use Rattle.sheet.proofs.charges.put_charges.Goals as goal
+
+pub loop-i-init : goal.loop-i-init
+loop-i-init c = (omega arith, refl, going_start _ _ _ _ _ _ c.requires (charges_first _))
+
+pub offset_bounds-charges-i : goal.offset_bounds-charges-i
+offset_bounds-charges-i c = omega arith
+
+pub bounds-charges-i : goal.bounds-charges-i
+bounds-charges-i c = omega arith
+
+pub overflow_cast-i : goal.overflow_cast-i
+overflow_cast-i c = omega arith
+
+pub overflow_cast-i-in-loop-i : goal.overflow_cast-i-in-loop-i
+overflow_cast-i-in-loop-i c = omega arith
+
+pub put_charge-tally-requires : goal.put_charge-tally-requires
+put_charge-tally-requires c =
+    let l = c.loop-i in
+    let h = c.loop-i-test.true in
+    going_ready _ _ _ _ _ _ _ _ _ _ _ l.invariant.1 c.requires l.invariant.2 (charges_more c.args.charges l.i h)
+
+pub overflow_add-i : goal.overflow_add-i
+overflow_add-i c = omega arith
+
+pub loop-i-smaller : goal.loop-i-smaller
+loop-i-smaller c = omega arith
+
+pub loop-i-preserved : goal.loop-i-preserved
+loop-i-preserved c =
+    let l = c.loop-i in
+    let h = c.loop-i-test.true in
+    let put = c.put_charge-tally in
+    (omega arith, put.auto.0 ∙ l.invariant.1, going_next _ _ _ _ _ _ _ _ _ _ _ l.invariant.2 (charges_more c.args.charges l.i h) put.ensures)
+
+pub returns : goal.returns
+returns c =
+    let l = c.loop-i in
+    going_done _ _ _ _ _ _ _ l.invariant.2 (charges_done c.args.charges l.i (omega arith))

@@ -1,0 +1,8 @@
+-- `sound_positions::due::is_due` meets its contract. Assumes nothing.
+use borrow.Author.Rules.{rules}
+use Rattle.rules.specs.Sound.{is_due}
+use Rattle.sound_positions.proofs.due.is_due.Goals as goal
+
+pub returns : goal.returns
+unfolding is_due
+returns c = c.due_by.ensures

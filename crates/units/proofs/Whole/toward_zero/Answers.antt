@@ -1,0 +1,7 @@
+-- `units::Whole::toward_zero` meets its contract. Assumes nothing.
+use borrow.Author.Rules.{rules}
+use native.Mathlib.Omega.{arith}
+use Rattle.units.proofs.Whole.toward_zero.Goals as goal
+
+pub returns : goal.returns
+returns c = (rw (← c.size-j.ensures, ← c.size.ensures, ← c.is_negative.ensures) c.of.ensures.0, omega arith)
