@@ -1,4 +1,4 @@
--- Theorems about every history of calls. To be read: Histories, Amounts, Lent, Publics (the words) and Theorems (the statements); nothing else must be.
+-- Theorems about every history of calls. To be read: Histories, Amounts, Lent, Publics here (the words) and proofs/Theorems (the statements); nothing else must be.
 pub mod Histories
 pub mod Amounts
 pub mod Lent
@@ -11,31 +11,21 @@ pub mod Logs
 pub mod Rest
 pub mod Alike
 pub mod Survivors
--- the same deposits, withdrawals and runs again; the survivors entered; the last accepted form of a number, and all of them by the log; the tidy day; the survivors in
--- any order, any list of last forms, entries between the other calls; many days
+-- the same deposits, withdrawals and runs again; the survivors entered; the last accepted form of a number; a list in another order; any list of last forms; many days
 pub mod Following
 pub mod Entering
 pub mod Forms
-pub mod Surviving
-pub mod Days
 pub mod Orders
 pub mod AnyForms
-pub mod Interleaving
 pub mod ManyDays
--- zero totals, holdings
+-- zero totals of shares, holdings
 pub mod ZeroShares
-pub mod ZeroMoney
 pub mod Held
--- over lent bytes: bytes of any book, values that fit, calls one after another, tidy days
+-- over lent bytes: bytes of any book, values that fit, calls one after another, the records of a file
 pub mod AllBytes
 pub mod SoundFits
 pub mod LentHistory
-pub mod TidyFits
 pub mod FileRecords
 pub mod FileHistory
--- over lent bytes, of all public calls
-pub mod PublicHistory
 -- a history worked out
 pub mod Example
--- the statements
-pub mod Theorems

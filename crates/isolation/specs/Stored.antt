@@ -20,7 +20,7 @@ use Rattle.history.specs.Lent.{made_bytes, AllFit}
 use Rattle.history.specs.Steps.{Good, left_yes, answer_sound_lem, made_good}
 use Rattle.history.specs.AllBytes.{bytes_of_lem}
 use Rattle.history.specs.LentHistory.{made_fits}
-use Rattle.history.specs.Theorems.{any_bytes}
+use Rattle.history.proofs.Theorems.{any_bytes}
 
 unsound_stay : (bs : List ℕ) (c : Call) → not_sound bs ≡ true → after_bytes bs c ≡ bs
 unfolding after_bytes answer_bytes first

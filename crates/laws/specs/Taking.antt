@@ -6,7 +6,7 @@ use Rattle.std.specs.Bool.{beq}
 use Rattle.std.proofs.Math.IntN.{nat_abs}
 use borrow.Author.Tests.{eqb-true, eqb-false, eq-eqb, ne_eqb}
 use Rattle.integers.specs.Signs.{is_negative, signed, toward_zero_size, toward_zero_all, toward_zero_sign, toward_zero_pair}
-use Rattle.units_rounded.specs.PartLaws.{part_sign, part_le, part_all, part_split, part_rest}
+use Rattle.units_rounded.proofs.PartLaws.{part_sign, part_le, part_all, part_split, part_rest}
 use Rattle.rules.specs.Book.{quantity_of, money_of, is_zero, due_of, account_of, security_of}
 use Rattle.rules.specs.Parts.{part_money, without}
 use Rattle.rules.specs.Roll.{opposite, smaller}

@@ -6,7 +6,7 @@ use Rattle.std.proofs.Common.{sym, ◌∙◌}
 use Rattle.std.proofs.Math.Option.{Option, some, none}
 use Rattle.fields.specs.Field.{field, Bytes}
 use Rattle.rules.specs.Bounds.{most_records}
-use Rattle.rules.specs.Layout.{book, book_of}
+use Rattle.rules.specs.Layout.{book_of}
 use Rattle.rules.specs.LayoutLaws.{book_bytes}
 use Rattle.rules.specs.Records.{too_long}
 use Rattle.rules.specs.CallFile.{file_of, answers_of, bytes_left}

@@ -1,8 +1,7 @@
 -- The sheet of a refused file, in the steps of the code.
 use Rattle.std.specs.Prelude.{◌≡◌, refl, true, List, [], ◌∷◌, ◌++◌, ℕ, ◌≤◌, length, drop}
 use Rattle.std.proofs.Common.{sym, ap, subst, arith}
-use Rattle.rules.specs.Words.{each}
-use Rattle.rules.specs.Sheet.{text_of, ended, refused_sheet}
+use Rattle.rules.specs.Sheet.{ended, refused_sheet}
 use Rattle.rules.specs.declared.Line.{Line}
 use Rattle.rules.specs.declared.Tally.{Tally}
 use Rattle.rules.specs.declared.Line.TheVariants.{Refusal, End}

@@ -13,7 +13,7 @@ use Rattle.laws.specs.Fitting.{empty_fits}
 use Rattle.history.specs.Histories.{made}
 use Rattle.history.specs.Steps.{empty_good}
 use Rattle.history.specs.LentHistory.{made_fits}
-use Rattle.history.specs.Theorems.{every_book_sound, file_codes, file_calls, file_history}
+use Rattle.history.proofs.Theorems.{every_book_sound, file_codes, file_calls, file_history}
 
 unfoldable pub is_there : {A : Type 0} → Option A → Bool
 is_there none = false

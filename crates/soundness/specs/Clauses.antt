@@ -1,17 +1,10 @@
--- The sentences of "A sound book" in groups, as the code tests them: the position table's, and all of them; and the length of the book.
-use Rattle.std.specs.Prelude.{◌≡◌, refl, Bool, true, false, not, ◌&&◌, List, ℕ, ◌≤◌, leb, length, drop}
-use Rattle.std.proofs.Common.{sym, ap, ◌∙◌, eq-eqb, ne_eqb}
-use Rattle.std.proofs.Math.Bool.{and_assoc}
+-- The sentences of "A sound book" in groups, as the code tests them: the position table's, and the records'.
+use Rattle.std.specs.Prelude.{Bool, not, ◌&&◌}
 use Rattle.rules.specs.Words.{all, keep}
-use Rattle.rules.specs.Bounds.{accounts, securities, most_records}
 use Rattle.rules.specs.Book.{open_of, security_of, unlisted}
-use Rattle.rules.specs.Layout.{book_length, book_of}
-use Rattle.rules.specs.Sound.{day_fits, codes_fit, ascends, is_blank, records_fit, sizes_fit, is_due, one_sign, due_balanced, by_account, holdings_fit, holds_listed, unlisted_empty, money_fits, trades_fit, sound, not_sound}
+use Rattle.rules.specs.Sound.{ascends, is_due, one_sign, due_balanced}
 use Rattle.rules.specs.declared.Book.{Book}
-use Rattle.laws.specs.Cases.{both_hold, and_hold}
-use Rattle.sound_positions.specs.Each.{each_fits, room_fits, room_within}
-use Rattle.sound_tables.specs.Held.{held_fits}
-use Rattle.sound_tables.specs.Stakes.{MoneyAsks}
+use Rattle.sound_positions.specs.Each.{each_fits, room_fits}
 
 -- room and order; what is asked of each record by itself; signs and balances
 abbrev pub positions_fit : Book → Bool
@@ -20,76 +13,6 @@ positions_fit k =
     && ((ascends (open_of k) && each_fits k)
     && (one_sign (keep (is_due k.day) (open_of k)) && due_balanced k))
 
-pub positions_by : (k : Book) {r e t : Bool} → room_fits k ≡ r → ascends (open_of k) && each_fits k ≡ e
-    → one_sign (keep (is_due k.day) (open_of k)) && due_balanced k ≡ t → r && (e && t) ≡ positions_fit k
-positions_by k er ee et = rw (← er, ← ee, ← et)
-
 -- no record of an unlisted security
 abbrev pub records_listed : Book → Bool
 records_listed k = all (λ p. not (unlisted k (security_of p))) (open_of k)
-
--- ── the groups make the whole ──
-
--- the order of the records is tested behind the room
-regroup_positions : (count ascent blank each together rest : Bool)
-    → ((count && blank) && ((ascent && each) && together)) && rest ≡ (count && (ascent && blank)) && (each && (together && rest))
-regroup_positions false ascent blank each together rest = refl
-regroup_positions true false false each together rest = refl
-regroup_positions true false true each together rest = refl
-regroup_positions true true false each together rest = refl
-regroup_positions true true true each together rest = and_assoc each together rest
-
--- the holdings of unlisted securities are tested with the other holdings
-regroup_holdings : (held heldListed records_listed rest : Bool)
-    → (held && heldListed) && (records_listed && rest) ≡ held && ((records_listed && heldListed) && rest)
-regroup_holdings false heldListed records_listed rest = refl
-regroup_holdings true false false rest = refl
-regroup_holdings true false true rest = refl
-regroup_holdings true true false rest = refl
-regroup_holdings true true true rest = refl
-
-pub sound_is : (k : Book)
-    → day_fits k && (codes_fit k && (positions_fit k && (held_fits k && (records_listed k && (money_fits k && trades_fit k))))) ≡ sound k
-unfolding sound records_fit unlisted_empty
-sound_is k =
-    rw (
-      regroup_holdings (holdings_fit k) (all (holds_listed k.currency) (by_account securities accounts k.holdings)) (records_listed k) (money_fits k && trades_fit k),
-      regroup_positions (leb k.records most_records) (ascends (open_of k)) (all is_blank (drop k.records k.positions)) (each_fits k)
-          (one_sign (keep (is_due k.day) (open_of k)) && due_balanced k) _,
-    )
-    (simp and_assoc)
-
--- so the tests that were made say what `sound` is; those that were not stand as they are
-pub sound_by : (k : Book) {a b p h u m t : Bool} → day_fits k ≡ a → codes_fit k ≡ b → positions_fit k ≡ p → held_fits k ≡ h → records_listed k ≡ u
-    → money_fits k ≡ m → trades_fit k ≡ t → a && (b && (p && (h && (u && (m && t))))) ≡ sound k
-sound_by k ea eb ep eh eu em et = rw (← ea, ← eb, ← ep, ← eh, ← eu, ← em, ← et) (sound_is k)
-
--- ── what the tests after the first ones count on ──
-
-pub positions_records : (k : Book) → positions_fit k ≡ true → k.records ≤ most_records
-positions_records k e = room_within k (both_hold (room_fits k) _ e).0
-
-positions_sizes : (k : Book) → positions_fit k ≡ true → all sizes_fit (open_of k) ≡ true
-positions_sizes k e =
-    let each = (both_hold (ascends (open_of k) && each_fits k) _ (both_hold (room_fits k) _ e).1).0 in
-    (both_hold (all sizes_fit (open_of k)) _ (both_hold (ascends (open_of k)) (each_fits k) each).1).0
-
-pub money_asks : (k : Book) → codes_fit k ≡ true → positions_fit k ≡ true → held_fits k ≡ true → records_listed k ≡ true → MoneyAsks k
-unfolding unlisted_empty
-money_asks k c p h u =
-    record {
-      records = positions_records k p;
-      sizes = positions_sizes k p;
-      codes = c;
-      listed = and_hold u (both_hold (holdings_fit k) _ h).1;
-    }
-
--- ── a book of wrong length is none ──
-
-pub wrong_length : (bs : List ℕ) → (length bs ≡ book_length → ⊥) → true ≡ not_sound bs
-unfolding not_sound
-wrong_length bs h = sym (ap (λ (t : Bool). not (t && sound (book_of bs))) (ne_eqb (length bs) book_length h))
-
-pub by_soundness : (bs : List ℕ) (r : Bool) → length bs ≡ book_length → r ≡ sound (book_of bs) → not r ≡ not_sound bs
-unfolding not_sound
-by_soundness bs r h e = ap not e ∙ sym (ap (λ (t : Bool). not (t && sound (book_of bs))) (eq-eqb (length bs) book_length h))

@@ -1,6 +1,8 @@
 // The public calls of the base for programs in other languages (include/wickdamson.h declares them): numbers and lent
 // slices only. A slice is a pointer and a length there, and a lent number a pointer. None requires anything of its caller, and
 // each is promised in full, as the call that it stands for: the answer, each figure that is written, every byte of what is lent.
+#![tactic(auto)]
+
 mod creation;
 mod files;
 mod holdings;

@@ -1,5 +1,4 @@
 -- `book::day_at` meets its contract. Assumes nothing.
-use borrow.Author.Rules.{rules}
 use Rattle.book.specs.Views.{day_view}
 use Rattle.book.proofs.day_at.Goals as goal
 

@@ -1,5 +1,4 @@
 -- `book::entries_at` meets its contract. Assumes nothing.
-use borrow.Author.Rules.{rules}
 use Rattle.book.specs.Views.{entries_view}
 use Rattle.book.proofs.entries_at.Goals as goal
 

@@ -1,5 +1,4 @@
 -- `book::records_at` meets its contract. Assumes nothing.
-use borrow.Author.Rules.{rules}
 use Rattle.book.specs.Views.{records_view}
 use Rattle.book.proofs.records_at.Goals as goal
 

@@ -1,5 +1,4 @@
 -- `book_whole::load` meets its contract. Each part is what the layout reads there (`book_read`). Assumes nothing.
-use borrow.Author.Rules.{rules}
 use Rattle.book.specs.Reading.{book_read}
 use Rattle.book_whole.proofs.load.Goals as goal
 

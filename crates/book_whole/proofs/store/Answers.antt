@@ -15,10 +15,10 @@ abbrev Start : Type 0
 Start = lts.Start tie.the-claims reads.Pre reads.Post
 
 pub put-requires-3 : goal.put-requires-3
-put-requires-3 c = omega (arith, put-charges-requires c.before.before.before.before.before κs, c.put_charges.auto.1.0)
+put-requires-3 c = omega arith
 
 pub put_trades-requires : goal.put_trades-requires
-put_trades-requires c = omega (arith, put-charges-requires c.before.before.before.before.before.before.before.before.before κs, c.put_charges.auto.1.0, c.put-3.auto.0)
+put_trades-requires c = omega arith
 
 -- what comes in as a book has tables of the right length
 tables : (c : Start) → Tables c.args.k

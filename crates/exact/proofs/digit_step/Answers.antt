@@ -1,5 +1,4 @@
 -- `exact::digit_step` meets its contract. Assumes nothing.
-use borrow.Author.Rules.{rules}
 use Prim.Native.Nat.{◌/◌}
 use mathlib.Core.Path.{sym, ◌∙◌}
 use Rattle.exact.specs.MulDiv.{digits_of, is_big, big_is, big_more}

@@ -1,5 +1,4 @@
 -- `exact::one_digit` meets its contract. Assumes nothing.
-use borrow.Author.Rules.{rules}
 use native.Mathlib.Omega.{arith}
 use native.Mathlib.Nat.{mod-lt}
 use Prim.Native.Nat.{◌*◌, ◌/◌, ◌%◌}

@@ -1,5 +1,4 @@
 -- `exact::scaled_down` meets its contract. Assumes nothing.
-use borrow.Author.Rules.{rules}
 use mathlib.Core.Path.{sym, ◌∙◌}
 use Rattle.exact.specs.Rounding.{down_past, down_whole}
 use Rattle.exact.proofs.scaled_down.Goals as goal

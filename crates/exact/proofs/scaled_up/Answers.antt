@@ -1,5 +1,4 @@
 -- `exact::scaled_up` meets its contract. Assumes nothing.
-use borrow.Author.Rules.{rules}
 use mathlib.Core.Path.{sym, ◌∙◌}
 use Rattle.exact.specs.MulDiv.{done_is}
 use Rattle.exact.specs.Rounding.{up_past, up_whole}

@@ -1,7 +1,7 @@
 -- `fields::get` meets its contract: after i turns x is the number in the first i bytes.
 use borrow.Author.Rules.{rules}
 use mathlib.Core.Path.{◌≡◌, ap, ◌∙◌}
-use Prim.Native.Nat.{ℕ, ◌≤◌, ◌-◌}
+use Prim.Native.Nat.{ℕ}
 use native.Mathlib.Omega.{arith}
 use Rattle.fields.specs.Field.{field, Bytes}
 use Rattle.fields.specs.FieldLaws.{field_more, field_room, field_lt}

@@ -1,10 +1,8 @@
 -- `fields::put` meets its contract: the stores that are left, of the digits that are left, make what the contract says.
 use borrow.Author.Rules.{rules}
-use mathlib.Core.Path.{◌≡◌, ◌∙◌}
-use Prim.Native.Nat.{◌≤◌}
+use mathlib.Core.Path.{◌∙◌}
 use native.Mathlib.Omega.{arith}
-use lib.ListN.{length, length-set}
-use Rattle.fields.specs.Field.{digits, stored}
+use lib.ListN.{length-set}
 use Rattle.fields.specs.FieldLaws.{put_more, put_done}
 use Rattle.fields.proofs.put.Goals as goal
 

@@ -1,11 +1,8 @@
 -- `fields::put` meets its contract: the stores that are left, of the digits that are left, make what the contract says.
-use borrow.Author.Rules.{rules}
-use mathlib.Core.Path.{◌≡◌, ◌∙◌}
+use mathlib.Core.Path.{◌≡◌}
 use Prim.Native.Nat.{◌≤◌}
-use native.Mathlib.Omega.{arith}
-use lib.ListN.{length, length-set}
+use lib.ListN.{length}
 use Rattle.fields.specs.Field.{digits, stored}
-use Rattle.fields.specs.FieldLaws.{put_more, put_done}
 use Rattle.fields.proofs.put.Given as goal
 
 abbrev pub invariant-loop-i : goal.invariant-loop-i

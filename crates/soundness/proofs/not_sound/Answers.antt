@@ -1,6 +1,5 @@
 -- `soundness::not_sound` meets its contract. Assumes nothing.
-use borrow.Author.Rules.{rules}
-use Rattle.soundness.specs.Clauses.{wrong_length, by_soundness}
+use Rattle.soundness.proofs.Clauses.{wrong_length, by_soundness}
 use Rattle.soundness.proofs.not_sound.Goals as goal
 
 pub returns-then-b-ne-BOOK_BYTES : goal.returns-then-b-ne-BOOK_BYTES

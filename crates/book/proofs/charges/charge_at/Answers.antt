@@ -1,5 +1,4 @@
 -- `book::charges::charge_at` meets its contract. Assumes nothing.
-use borrow.Author.Rules.{rules}
 use Rattle.book.specs.Reading.{amount_read}
 use Rattle.book.specs.Views.{charge_view}
 use Rattle.book.proofs.charges.charge_at.Goals as goal

@@ -1,5 +1,4 @@
 -- `book::charges::clear_charges` meets its contract. Assumes nothing.
-use borrow.Author.Rules.{rules}
 use native.Mathlib.Omega.{arith}
 use Rattle.fields.specs.Field.{Bytes}
 use Rattle.book.specs.Replacing.{charges_stored}

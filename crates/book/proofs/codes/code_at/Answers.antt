@@ -1,5 +1,4 @@
 -- `book::codes::code_at` meets its contract. Assumes nothing.
-use borrow.Author.Rules.{rules}
 use Rattle.book.specs.Views.{code_view}
 use Rattle.book.proofs.codes.code_at.Goals as goal
 

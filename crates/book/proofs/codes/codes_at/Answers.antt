@@ -1,10 +1,8 @@
 -- `book::codes::codes_at` meets its contract. The invariant: the first i codes are those that the layout reads. Assumes nothing.
-use borrow.Author.Rules.{rules}
 use native.Mathlib.Omega.{arith}
-use mathlib.Core.Path.{◌≡◌, refl}
-use Prim.Native.Nat.{◌≤◌, ◌-◌}
-use lib.ListN.{length, take, drop, length-set}
-use Rattle.fields.specs.Codec.{number, read_rows, read_none, read_more, read_done}
+use mathlib.Core.Path.{refl}
+use lib.ListN.{length-set}
+use Rattle.fields.specs.Codec.{number, read_none, read_more, read_done}
 use Rattle.book.specs.Places.{codes_place}
 use Rattle.book.specs.Reading.{number_read}
 use Rattle.book.proofs.codes.codes_at.Goals as goal

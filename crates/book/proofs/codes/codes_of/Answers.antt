@@ -1,5 +1,4 @@
 -- `book::codes::codes_of` meets its contract. Assumes nothing.
-use borrow.Author.Rules.{rules}
 use Rattle.book.specs.Views.{codes_view}
 use Rattle.book.proofs.codes.codes_of.Goals as goal
 

@@ -1,5 +1,4 @@
 -- `book::holdings::holding_at` meets its contract. Assumes nothing.
-use borrow.Author.Rules.{rules}
 use Rattle.book.specs.Views.{holding_view}
 use Rattle.book.proofs.holdings.holding_at.Goals as goal
 

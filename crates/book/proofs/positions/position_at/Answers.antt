@@ -1,5 +1,4 @@
 -- `book::positions::position_at` meets its contract. Assumes nothing.
-use borrow.Author.Rules.{rules}
 use Rattle.book.specs.Views.{position_view}
 use Rattle.book.proofs.positions.position_at.Goals as goal
 

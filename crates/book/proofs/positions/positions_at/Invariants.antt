@@ -1,10 +1,8 @@
 -- `book::positions::positions_at` meets its contract. The invariant: the first i rows are those that the layout reads. Assumes nothing.
-use borrow.Author.Rules.{rules}
-use native.Mathlib.Omega.{arith}
-use mathlib.Core.Path.{◌≡◌, refl}
+use mathlib.Core.Path.{◌≡◌}
 use Prim.Native.Nat.{◌≤◌, ◌-◌}
-use lib.ListN.{length, take, drop, length-set}
-use Rattle.fields.specs.Codec.{read_rows, read_none, read_more, read_done}
+use lib.ListN.{length, take, drop}
+use Rattle.fields.specs.Codec.{read_rows}
 use Rattle.rules.specs.Layout.{position}
 use Rattle.book.specs.Places.{positions_place}
 use Rattle.book.proofs.positions.positions_at.Given as goal

@@ -1,5 +1,4 @@
 -- `book::positions::positions_of` meets its contract. Assumes nothing.
-use borrow.Author.Rules.{rules}
 use Rattle.book.specs.Views.{positions_view}
 use Rattle.book.proofs.positions.positions_of.Goals as goal
 

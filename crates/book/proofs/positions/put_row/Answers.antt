@@ -1,5 +1,4 @@
 -- `book::positions::put_row` meets its contract. The fields stored one behind the other are the row stored (`position_written`). Assumes nothing.
-use borrow.Author.Rules.{rules}
 use Rattle.book.specs.Writing.{digits_written, position_written}
 use Rattle.book.proofs.positions.put_row.Goals as goal
 

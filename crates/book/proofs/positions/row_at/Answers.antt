@@ -1,5 +1,4 @@
 -- `book::positions::row_at` meets its contract. The fields read at their places are the row (`position_read`). Assumes nothing.
-use borrow.Author.Rules.{rules}
 use Rattle.book.specs.Reading.{position_read}
 use Rattle.book.proofs.positions.row_at.Goals as goal
 

@@ -1,5 +1,4 @@
 -- `book::trades::clear_list` meets its contract. Assumes nothing.
-use borrow.Author.Rules.{rules}
 use native.Mathlib.Omega.{arith}
 use Rattle.fields.specs.Field.{Bytes}
 use Rattle.book.specs.Replacing.{list_stored}

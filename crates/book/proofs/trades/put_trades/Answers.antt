@@ -2,10 +2,8 @@
 use borrow.Author.Rules.{rules}
 use native.Mathlib.Omega.{arith}
 use mathlib.Core.Path.{◌≡◌, refl}
-use Prim.Native.Nat.{◌≤◌, ◌-◌}
-use lib.ListN.{length, take}
-use Rattle.fields.specs.Field.{stored}
-use Rattle.fields.specs.Codec.{write_rows, write_none, write_more, write_done}
+use lib.ListN.{length}
+use Rattle.fields.specs.Codec.{write_none, write_more, write_done}
 use Rattle.rules.specs.Layout.{trade}
 use Rattle.book.specs.Places.{trades_place}
 use Rattle.book.specs.Writing.{trade_long}
@@ -22,7 +20,7 @@ loop-i-preserved c =
     let p = c.put_trade in (
       omega arith,
       (
-        omega (arith, p.auto.1.0),
+        omega (arith, p.auto.b),
         write_more trade trade_long l.i trades_place a.t _ _ _ _ (omega arith) l.invariant.1.1
             p.ensures,
       ),

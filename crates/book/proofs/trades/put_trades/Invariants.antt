@@ -1,14 +1,11 @@
 -- `book::trades::put_trades` meets its contract. The invariant: the first i rows are stored, and the bytes keep their length. Assumes nothing.
-use borrow.Author.Rules.{rules}
-use native.Mathlib.Omega.{arith}
-use mathlib.Core.Path.{◌≡◌, refl}
+use mathlib.Core.Path.{◌≡◌}
 use Prim.Native.Nat.{◌≤◌, ◌-◌}
 use lib.ListN.{length, take}
 use Rattle.fields.specs.Field.{stored}
-use Rattle.fields.specs.Codec.{write_rows, write_none, write_more, write_done}
+use Rattle.fields.specs.Codec.{write_rows}
 use Rattle.rules.specs.Layout.{trade}
 use Rattle.book.specs.Places.{trades_place}
-use Rattle.book.specs.Writing.{trade_long}
 use Rattle.book.proofs.trades.put_trades.Given as goal
 
 abbrev pub invariant-loop-i : goal.invariant-loop-i

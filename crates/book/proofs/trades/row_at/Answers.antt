@@ -1,5 +1,4 @@
 -- `book::trades::row_at` meets its contract. The fields read at their places are the row (`trade_read`). Assumes nothing.
-use borrow.Author.Rules.{rules}
 use Rattle.book.specs.Reading.{trade_read}
 use Rattle.book.proofs.trades.row_at.Goals as goal
 

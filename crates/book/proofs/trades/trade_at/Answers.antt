@@ -1,5 +1,4 @@
 -- `book::trades::trade_at` meets its contract. Assumes nothing.
-use borrow.Author.Rules.{rules}
 use Rattle.book.specs.Views.{trade_view}
 use Rattle.book.proofs.trades.trade_at.Goals as goal
 

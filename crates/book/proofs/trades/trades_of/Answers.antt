@@ -1,5 +1,4 @@
 -- `book::trades::trades_of` meets its contract. Assumes nothing.
-use borrow.Author.Rules.{rules}
 use Rattle.book.specs.Views.{trades_view}
 use Rattle.book.proofs.trades.trades_of.Goals as goal
 

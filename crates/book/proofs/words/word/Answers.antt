@@ -1,5 +1,4 @@
 -- `book::words::word` meets its contract. Assumes nothing.
-use borrow.Author.Rules.{rules}
 use Rattle.book.specs.Reading.{word_read}
 use Rattle.book.proofs.words.word.Goals as goal
 

@@ -1,9 +1,7 @@
 -- `book::zeros::put_zeros` meets its contract. The invariant: the zeros that are left, stored, make what the contract says. Assumes nothing.
 use native.Mathlib.Omega.{arith}
-use mathlib.Core.Path.{◌≡◌, refl, ◌∙◌}
-use Prim.Native.Nat.{◌≤◌, ◌-◌}
-use lib.ListN.{length, replicate, length-set}
-use Rattle.fields.specs.Field.{stored}
+use mathlib.Core.Path.{refl, ◌∙◌}
+use lib.ListN.{length-set}
 use Rattle.book.specs.Changing.{zeros_more, zeros_done}
 use Rattle.book.proofs.zeros.put_zeros.Goals as goal
 

@@ -1,10 +1,8 @@
 -- `book::zeros::put_zeros` meets its contract. The invariant: the zeros that are left, stored, make what the contract says. Assumes nothing.
-use native.Mathlib.Omega.{arith}
-use mathlib.Core.Path.{◌≡◌, refl, ◌∙◌}
+use mathlib.Core.Path.{◌≡◌}
 use Prim.Native.Nat.{◌≤◌, ◌-◌}
-use lib.ListN.{length, replicate, length-set}
+use lib.ListN.{length, replicate}
 use Rattle.fields.specs.Field.{stored}
-use Rattle.book.specs.Changing.{zeros_more, zeros_done}
 use Rattle.book.proofs.zeros.put_zeros.Given as goal
 
 abbrev pub invariant-loop-i : goal.invariant-loop-i

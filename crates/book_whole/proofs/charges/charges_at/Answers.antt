@@ -1,10 +1,8 @@
 -- `book_whole::charges::charges_at` meets its contract. The invariant: the first i charges are those that the layout reads. Assumes nothing.
-use borrow.Author.Rules.{rules}
 use native.Mathlib.Omega.{arith}
-use mathlib.Core.Path.{◌≡◌, refl}
-use Prim.Native.Nat.{◌≤◌, ◌-◌}
-use lib.ListN.{length, take, drop, length-set}
-use Rattle.fields.specs.Codec.{read_rows, read_none, read_more, read_done}
+use mathlib.Core.Path.{refl}
+use lib.ListN.{length-set}
+use Rattle.fields.specs.Codec.{read_none, read_more, read_done}
 use Rattle.rules.specs.Layout.{amount}
 use Rattle.book.specs.Places.{charges_place}
 use Rattle.book.specs.Reading.{amount_read}

@@ -1,13 +1,10 @@
 -- `book_whole::charges::charges_at` meets its contract. The invariant: the first i charges are those that the layout reads. Assumes nothing.
-use borrow.Author.Rules.{rules}
-use native.Mathlib.Omega.{arith}
-use mathlib.Core.Path.{◌≡◌, refl}
+use mathlib.Core.Path.{◌≡◌}
 use Prim.Native.Nat.{◌≤◌, ◌-◌}
-use lib.ListN.{length, take, drop, length-set}
-use Rattle.fields.specs.Codec.{read_rows, read_none, read_more, read_done}
+use lib.ListN.{length, take, drop}
+use Rattle.fields.specs.Codec.{read_rows}
 use Rattle.rules.specs.Layout.{amount}
 use Rattle.book.specs.Places.{charges_place}
-use Rattle.book.specs.Reading.{amount_read}
 use Rattle.book_whole.proofs.charges.charges_at.Given as goal
 
 abbrev pub invariant-loop-i : goal.invariant-loop-i

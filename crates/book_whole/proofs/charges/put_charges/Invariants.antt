@@ -1,14 +1,11 @@
 -- `book_whole::charges::put_charges` meets its contract. The invariant: the first i charges are stored, and the bytes keep their length. Assumes nothing.
-use borrow.Author.Rules.{rules}
-use native.Mathlib.Omega.{arith}
-use mathlib.Core.Path.{◌≡◌, refl}
+use mathlib.Core.Path.{◌≡◌}
 use Prim.Native.Nat.{◌≤◌, ◌-◌}
 use lib.ListN.{length, take}
 use Rattle.fields.specs.Field.{stored}
-use Rattle.fields.specs.Codec.{write_rows, write_none, write_more, write_done}
+use Rattle.fields.specs.Codec.{write_rows}
 use Rattle.rules.specs.Layout.{amount}
 use Rattle.book.specs.Places.{charges_place}
-use Rattle.book.specs.Writing.{amount_long, digits_written}
 use Rattle.book_whole.proofs.charges.put_charges.Given as goal
 
 abbrev pub invariant-loop-i : goal.invariant-loop-i

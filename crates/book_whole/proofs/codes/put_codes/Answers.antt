@@ -2,11 +2,9 @@
 use borrow.Author.Rules.{rules}
 use native.Mathlib.Omega.{arith}
 use mathlib.Core.Path.{◌≡◌, refl}
-use Prim.Native.Nat.{◌≤◌, ◌-◌}
-use lib.ListN.{length, take}
-use Rattle.fields.specs.Field.{stored}
+use lib.ListN.{length}
 use Rattle.fields.specs.FieldLaws.{length_digits}
-use Rattle.fields.specs.Codec.{number, write_rows, write_none, write_more, write_done}
+use Rattle.fields.specs.Codec.{number, write_none, write_more, write_done}
 use Rattle.book.specs.Places.{codes_place}
 use Rattle.book.specs.Writing.{digits_written}
 use Rattle.book_whole.proofs.codes.put_codes.Goals as goal
@@ -22,7 +20,7 @@ loop-i-preserved c =
     let p = c.put in (
       omega arith,
       (
-        omega (arith, p.auto.0),
+        omega (arith, p.auto.b),
         write_more (number 1) (length_digits 1) l.i codes_place a.t 0 _ _ _ (omega arith) l.invariant.1.1
             (digits_written 1 _ _ _ _ _ p.ensures c.wide.ensures.0),
       ),

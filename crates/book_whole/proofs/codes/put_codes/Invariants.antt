@@ -1,14 +1,10 @@
 -- `book_whole::codes::put_codes` meets its contract. The invariant: the first i codes are stored, and the bytes keep their length. Assumes nothing.
-use borrow.Author.Rules.{rules}
-use native.Mathlib.Omega.{arith}
-use mathlib.Core.Path.{◌≡◌, refl}
+use mathlib.Core.Path.{◌≡◌}
 use Prim.Native.Nat.{◌≤◌, ◌-◌}
 use lib.ListN.{length, take}
 use Rattle.fields.specs.Field.{stored}
-use Rattle.fields.specs.FieldLaws.{length_digits}
-use Rattle.fields.specs.Codec.{number, write_rows, write_none, write_more, write_done}
+use Rattle.fields.specs.Codec.{number, write_rows}
 use Rattle.book.specs.Places.{codes_place}
-use Rattle.book.specs.Writing.{digits_written}
 use Rattle.book_whole.proofs.codes.put_codes.Given as goal
 
 abbrev pub invariant-loop-i : goal.invariant-loop-i

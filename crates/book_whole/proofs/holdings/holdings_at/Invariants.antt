@@ -1,12 +1,9 @@
 -- `book_whole::holdings::holdings_at` meets its contract. The invariant: the first i holdings are those that the layout reads. Assumes nothing.
-use borrow.Author.Rules.{rules}
-use native.Mathlib.Omega.{arith}
-use mathlib.Core.Path.{◌≡◌, refl}
+use mathlib.Core.Path.{◌≡◌}
 use Prim.Native.Nat.{◌≤◌, ◌-◌}
-use lib.ListN.{length, take, drop, length-set}
-use Rattle.fields.specs.Codec.{number, read_rows, read_none, read_more, read_done}
+use lib.ListN.{length, take, drop}
+use Rattle.fields.specs.Codec.{number, read_rows}
 use Rattle.book.specs.Places.{holdings_place}
-use Rattle.book.specs.Reading.{number_read}
 use Rattle.book_whole.proofs.holdings.holdings_at.Given as goal
 
 abbrev pub invariant-loop-i : goal.invariant-loop-i

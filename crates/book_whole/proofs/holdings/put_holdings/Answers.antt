@@ -2,11 +2,9 @@
 use borrow.Author.Rules.{rules}
 use native.Mathlib.Omega.{arith}
 use mathlib.Core.Path.{◌≡◌, refl}
-use Prim.Native.Nat.{◌≤◌, ◌-◌}
-use lib.ListN.{length, take}
-use Rattle.fields.specs.Field.{stored}
+use lib.ListN.{length}
 use Rattle.fields.specs.FieldLaws.{length_digits}
-use Rattle.fields.specs.Codec.{number, write_rows, write_none, write_more, write_done}
+use Rattle.fields.specs.Codec.{number, write_none, write_more, write_done}
 use Rattle.book.specs.Places.{holdings_place}
 use Rattle.book_whole.proofs.holdings.put_holdings.Goals as goal
 
@@ -21,7 +19,7 @@ loop-i-preserved c =
     let p = c.put in (
       omega arith,
       (
-        omega (arith, p.auto.0),
+        omega (arith, p.auto.b),
         write_more (number 8) (length_digits 8) l.i holdings_place a.t 0 _ _ _ (omega arith) l.invariant.1.1
             p.ensures,
       ),

@@ -1,12 +1,9 @@
 -- `book_whole::holdings::put_holdings` meets its contract. The invariant: the first i holdings are stored, and the bytes keep their length. Assumes nothing.
-use borrow.Author.Rules.{rules}
-use native.Mathlib.Omega.{arith}
-use mathlib.Core.Path.{◌≡◌, refl}
+use mathlib.Core.Path.{◌≡◌}
 use Prim.Native.Nat.{◌≤◌, ◌-◌}
 use lib.ListN.{length, take}
 use Rattle.fields.specs.Field.{stored}
-use Rattle.fields.specs.FieldLaws.{length_digits}
-use Rattle.fields.specs.Codec.{number, write_rows, write_none, write_more, write_done}
+use Rattle.fields.specs.Codec.{number, write_rows}
 use Rattle.book.specs.Places.{holdings_place}
 use Rattle.book_whole.proofs.holdings.put_holdings.Given as goal
 

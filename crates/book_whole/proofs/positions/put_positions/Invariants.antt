@@ -1,14 +1,11 @@
 -- `book_whole::positions::put_positions` meets its contract. The invariant: the first i rows are stored, and the bytes keep their length. Assumes nothing.
-use borrow.Author.Rules.{rules}
-use native.Mathlib.Omega.{arith}
-use mathlib.Core.Path.{◌≡◌, refl}
+use mathlib.Core.Path.{◌≡◌}
 use Prim.Native.Nat.{◌≤◌, ◌-◌}
 use lib.ListN.{length, take}
 use Rattle.fields.specs.Field.{stored}
-use Rattle.fields.specs.Codec.{write_rows, write_none, write_more, write_done}
+use Rattle.fields.specs.Codec.{write_rows}
 use Rattle.rules.specs.Layout.{position}
 use Rattle.book.specs.Places.{positions_place}
-use Rattle.book.specs.Writing.{position_long}
 use Rattle.book_whole.proofs.positions.put_positions.Given as goal
 
 abbrev pub invariant-loop-i : goal.invariant-loop-i

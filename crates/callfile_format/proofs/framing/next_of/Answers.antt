@@ -1,5 +1,4 @@
 -- `callfile_format::framing::next_of` meets its contract. Assumes nothing.
-use borrow.Author.Rules.{rules}
 use mathlib.Core.Path.{sym, ap, ◌∙◌}
 use Prim.Native.Nat.{ℕ, ◌+◌}
 use Rattle.fields.specs.Codec.{field_at}

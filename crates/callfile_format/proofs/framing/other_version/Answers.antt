@@ -1,5 +1,4 @@
 -- `callfile_format::framing::other_version` meets its contract: an empty file has no version byte. Assumes nothing.
-use borrow.Author.Rules.{rules}
 use mathlib.Core.Path.{refl}
 use Rattle.rules.specs.Records.{other_version}
 use Rattle.callfile_format.specs.Framing.{empty_other}

@@ -1,13 +1,5 @@
 -- `callfile_format::reading::codes_fit_at` meets its contract. The loop's invariant: the codes before `i` pass. Assumes nothing.
-use borrow.Author.Rules.{rules}
-use borrow.Author.Tests.{not-true, not-false}
 use native.Mathlib.Omega.{arith}
-use Prim.Native.Nat.{◌-◌, ◌≤◌}
-use mathlib.Core.Bool.{true}
-use mathlib.Core.Path.{◌≡◌}
-use lib.ListN.{take, drop}
-use Rattle.rules.specs.Sound.{is_code}
-use Rattle.rules.specs.Words.{all}
 use Rattle.callfile_format.specs.Bodies.{codes_none, codes_more, codes_fail, codes_done}
 use Rattle.callfile_format.proofs.reading.codes_fit_at.Goals as goal
 
@@ -18,13 +10,13 @@ pub returns-then-not-is_code : goal.returns-then-not-is_code
 returns-then-not-is_code c =
     let l = c.loop-i in
     let a = c.args in
-    codes_fail a.at a.file.now l.i _ (omega arith) (omega arith) c.is_code.ensures (not-true _ c.if-not-is_code.true)
+    codes_fail a.at a.file.now l.i _ (omega arith) (omega arith) c.is_code.ensures c.if-not-is_code.true
 
 pub loop-i-preserved : goal.loop-i-preserved
 loop-i-preserved c =
     let l = c.loop-i in
     let a = c.args in
-    (omega arith, codes_more a.at a.file.now l.i _ (omega arith) (omega arith) c.is_code.ensures (not-false _ c.if-not-is_code.false) l.invariant.1)
+    (omega arith, codes_more a.at a.file.now l.i _ (omega arith) (omega arith) c.is_code.ensures c.if-not-is_code.false l.invariant.1)
 
 pub returns : goal.returns
 returns c =

@@ -1,14 +1,10 @@
 -- `callfile_format::reading::codes_fit_at` meets its contract. The loop's invariant: the codes before `i` pass. Assumes nothing.
-use borrow.Author.Rules.{rules}
-use borrow.Author.Tests.{not-true, not-false}
-use native.Mathlib.Omega.{arith}
 use Prim.Native.Nat.{◌-◌, ◌≤◌}
 use mathlib.Core.Bool.{true}
 use mathlib.Core.Path.{◌≡◌}
 use lib.ListN.{take, drop}
 use Rattle.rules.specs.Sound.{is_code}
 use Rattle.rules.specs.Words.{all}
-use Rattle.callfile_format.specs.Bodies.{codes_none, codes_more, codes_fail, codes_done}
 use Rattle.callfile_format.proofs.reading.codes_fit_at.Given as goal
 
 abbrev pub invariant-loop-i : goal.invariant-loop-i

@@ -1,5 +1,4 @@
 -- `callfile_format::reading::deposit_at` meets its contract: field by field. Assumes nothing.
-use borrow.Author.Rules.{rules}
 use Rattle.callfile_format.specs.Reading.{deposit_is}
 use Rattle.callfile_format.proofs.reading.deposit_at.Goals as goal
 

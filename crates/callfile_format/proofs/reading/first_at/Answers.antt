@@ -1,5 +1,4 @@
 -- `callfile_format::reading::first_at` meets its contract: another kind, good codes, bad codes. Assumes nothing.
-use borrow.Author.Rules.{rules}
 use mathlib.Core.Path.{refl, sym, ◌∙◌}
 use lib.Dec.{lit<}
 use Rattle.callfile_format.specs.Kinds.{long_of, room_at}

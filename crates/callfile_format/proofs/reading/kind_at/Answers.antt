@@ -1,5 +1,4 @@
 -- `callfile_format::reading::kind_at` meets its contract: what each test rules out. Assumes nothing.
-use borrow.Author.Rules.{rules}
 use native.Mathlib.Omega.{arith}
 use mathlib.Core.Path.{sym, ◌∙◌}
 use Rattle.callfile_format.specs.Kinds.{short_at, cut_at, none_at, other_at, found_at}

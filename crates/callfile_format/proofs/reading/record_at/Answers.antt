@@ -1,6 +1,7 @@
 -- `callfile_format::reading::record_at` meets its contract: the first record, then kind by kind. Assumes nothing.
 use borrow.Author.Rules.{rules}
 use mathlib.Core.Path.{refl}
+use native.Mathlib.Omega.{arith}
 use lib.Dec.{lit<}
 use Rattle.callfile_format.specs.Kinds.{long_of, room_at}
 use Rattle.callfile_format.specs.Reading.{first_is, no_other, is_enter, is_amend, is_exclude, is_roll_lem, is_deposit, is_withdrawal, is_run_lem}
@@ -9,7 +10,7 @@ use Rattle.callfile_format.proofs.reading.record_at.Goals as goal
 pub returns-then-place-eq1 : goal.returns-then-place-eq1
 returns-then-place-eq1 c =
     let a = c.args in
-    first_is a.place a.file.now _ c.if-place-eq1.true c.first_at.ensures
+    first_is a.place a.file.now _ (omega arith) c.first_at.ensures
 
 pub trade_at-requires : goal.trade_at-requires
 unfolding long_of
@@ -20,7 +21,7 @@ trade_at-requires c =
 pub returns-then-kind-eq1 : goal.returns-then-kind-eq1
 returns-then-kind-eq1 c =
     let a = c.args in
-    is_enter a.place a.file.now _ c.kind_at-kind.ensures c.if-place-eq1.false _ c.if-kind-eq1.true c.trade_at.ensures
+    is_enter a.place a.file.now _ c.kind_at-kind.ensures (omega arith) _ c.if-kind-eq1.true c.trade_at.ensures
 
 pub trade_at-requires-then-kind-eq2 : goal.trade_at-requires-then-kind-eq2
 unfolding long_of
@@ -31,7 +32,7 @@ trade_at-requires-then-kind-eq2 c =
 pub returns-then-kind-eq2 : goal.returns-then-kind-eq2
 returns-then-kind-eq2 c =
     let a = c.args in
-    is_amend a.place a.file.now _ c.kind_at-kind.ensures c.if-place-eq1.false _ c.if-kind-eq2.true c.trade_at-then-kind-eq2.ensures
+    is_amend a.place a.file.now _ c.kind_at-kind.ensures (omega arith) _ c.if-kind-eq2.true c.trade_at-then-kind-eq2.ensures
 
 pub overflow_add-place : goal.overflow_add-place
 unfolding long_of
@@ -50,12 +51,12 @@ get-requires c =
 pub returns-then-kind-eq3 : goal.returns-then-kind-eq3
 returns-then-kind-eq3 c =
     let a = c.args in
-    is_exclude a.place a.file.now _ c.kind_at-kind.ensures c.if-place-eq1.false _ c.if-kind-eq3.true c.get.ensures.0
+    is_exclude a.place a.file.now _ c.kind_at-kind.ensures (omega arith) _ c.if-kind-eq3.true c.get.ensures.0
 
 pub returns-then-kind-eq4 : goal.returns-then-kind-eq4
 returns-then-kind-eq4 c =
     let a = c.args in
-    is_roll_lem a.place a.file.now _ c.kind_at-kind.ensures c.if-place-eq1.false c.if-kind-eq4.true
+    is_roll_lem a.place a.file.now _ c.kind_at-kind.ensures (omega arith) c.if-kind-eq4.true
 
 pub deposit_at-requires : goal.deposit_at-requires
 unfolding long_of
@@ -66,7 +67,7 @@ deposit_at-requires c =
 pub returns-then-kind-eq5 : goal.returns-then-kind-eq5
 returns-then-kind-eq5 c =
     let a = c.args in
-    is_deposit a.place a.file.now _ c.kind_at-kind.ensures c.if-place-eq1.false _ c.if-kind-eq5.true c.deposit_at.ensures
+    is_deposit a.place a.file.now _ c.kind_at-kind.ensures (omega arith) _ c.if-kind-eq5.true c.deposit_at.ensures
 
 pub withdrawal_at-requires : goal.withdrawal_at-requires
 unfolding long_of
@@ -77,7 +78,7 @@ withdrawal_at-requires c =
 pub returns-then-kind-eq6 : goal.returns-then-kind-eq6
 returns-then-kind-eq6 c =
     let a = c.args in
-    is_withdrawal a.place a.file.now _ c.kind_at-kind.ensures c.if-place-eq1.false _ c.if-kind-eq6.true c.withdrawal_at.ensures
+    is_withdrawal a.place a.file.now _ c.kind_at-kind.ensures (omega arith) _ c.if-kind-eq6.true c.withdrawal_at.ensures
 
 pub overflow_add-place-then-kind-eq7 : goal.overflow_add-place-then-kind-eq7
 unfolding long_of
@@ -96,9 +97,9 @@ get-requires-then-kind-eq7 c =
 pub returns-then-kind-eq7 : goal.returns-then-kind-eq7
 returns-then-kind-eq7 c =
     let a = c.args in
-    is_run_lem a.place a.file.now _ c.kind_at-kind.ensures c.if-place-eq1.false _ c.if-kind-eq7.true c.get-then-kind-eq7.ensures.0
+    is_run_lem a.place a.file.now _ c.kind_at-kind.ensures (omega arith) _ c.if-kind-eq7.true c.get-then-kind-eq7.ensures.0
 
 pub returns : goal.returns
 returns c =
     let a = c.args in
-    no_other a.place a.file.now _ c.kind_at-kind.ensures c.if-place-eq1.false c.if-kind-eq1.false c.if-kind-eq2.false c.if-kind-eq3.false c.if-kind-eq4.false c.if-kind-eq5.false c.if-kind-eq6.false c.if-kind-eq7.false
+    no_other a.place a.file.now _ c.kind_at-kind.ensures (omega arith) c.if-kind-eq1.false c.if-kind-eq2.false c.if-kind-eq3.false c.if-kind-eq4.false c.if-kind-eq5.false c.if-kind-eq6.false c.if-kind-eq7.false

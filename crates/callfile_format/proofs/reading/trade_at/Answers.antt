@@ -1,5 +1,4 @@
 -- `callfile_format::reading::trade_at` meets its contract: field by field. Assumes nothing.
-use borrow.Author.Rules.{rules}
 use Rattle.callfile_format.specs.Bodies.{trade_is}
 use Rattle.callfile_format.proofs.reading.trade_at.Goals as goal
 

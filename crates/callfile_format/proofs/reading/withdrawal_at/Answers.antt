@@ -1,5 +1,4 @@
 -- `callfile_format::reading::withdrawal_at` meets its contract: field by field. Assumes nothing.
-use borrow.Author.Rules.{rules}
 use Rattle.callfile_format.specs.Reading.{withdrawal_is}
 use Rattle.callfile_format.proofs.reading.withdrawal_at.Goals as goal
 

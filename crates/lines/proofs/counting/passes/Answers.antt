@@ -4,7 +4,6 @@ use native.Mathlib.Omega.{arith}
 use borrow.Author.Tests.{le-leb, lt-leb}
 use Rattle.rules.specs.Bounds.{most_tally}
 use Rattle.lines.specs.Counting.{passes}
-use borrow.Author.Rules.{rules}
 use Rattle.lines.proofs.counting.passes.Goals as goal
 
 pub returns-then-size-room : goal.returns-then-size-room

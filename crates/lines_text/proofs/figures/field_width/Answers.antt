@@ -3,7 +3,6 @@ use mathlib.Core.Path.{ap}
 use native.Mathlib.Omega.{arith}
 use lib.ListN.{length}
 use Rattle.lines_text.specs.Placed.{field_minus, field_plain}
-use borrow.Author.Rules.{rules}
 use Rattle.lines_text.proofs.figures.field_width.Goals as goal
 
 pub returns-then-f : goal.returns-then-f

@@ -1,11 +1,8 @@
 -- `lines_text::figures::fields_width` meets its contract: the size of the fields so far. Assumes nothing.
-use mathlib.Core.Path.{◌≡◌, sym, ap}
-use Prim.Native.Nat.{ℕ, ◌-◌, ◌*◌, ◌≤◌}
-use borrow.Author.Rules.{rules}
-use native.Mathlib.Omega.{arith}
+use mathlib.Core.Path.{◌≡◌}
+use Prim.Native.Nat.{◌-◌, ◌*◌, ◌≤◌}
 use lib.ListN.{length}
 use Rattle.lines_text.specs.LineWords.{fields}
-use Rattle.lines_text.specs.Placed.{fields_none, length_fields}
 use Rattle.lines_text.proofs.figures.fields_width.Given as goal
 
 abbrev pub invariant-loop-i : goal.invariant-loop-i

@@ -3,7 +3,6 @@ use mathlib.Core.Path.{ap}
 use native.Mathlib.Omega.{arith}
 use lib.ListN.{length, length-set}
 use Rattle.lines_text.specs.Placed.{field_minus, field_plain, field_some, put_minus, put_plain}
-use borrow.Author.Rules.{rules}
 use Rattle.lines_text.proofs.figures.put_field.Goals as goal
 
 pub bounds-buffer-at : goal.bounds-buffer-at

@@ -1,6 +1,6 @@
 -- `lines_text::figures::put_fields` meets its contract: a field behind those so far. Assumes nothing.
 use mathlib.Core.Path.{◌≡◌, refl, sym, ap, ◌∙◌}
-use Prim.Native.Nat.{ℕ, ◌+◌, ◌-◌, ◌≤◌}
+use Prim.Native.Nat.{ℕ}
 use native.Mathlib.Omega.{arith}
 use lib.ListN.{length}
 use Rattle.fields.specs.Field.{stored}
@@ -51,7 +51,7 @@ loop-i-preserved c =
     let e = c.put_field-place.ensures in (
       omega arith,
       omega (arith, length_fields l.i a.figures),
-      c.put_field-place.auto.0 ∙ l.invariant.2,
+      c.put_field-place.auto.buffer ∙ l.invariant.2,
       put_fields a.buffer.now _ _ a.at l.place l.i a.figures l.invariant.3 l.invariant.1 e.1,
     )
 

@@ -1,12 +1,9 @@
 -- `lines_text::figures::put_fields` meets its contract: a field behind those so far. Assumes nothing.
-use mathlib.Core.Path.{◌≡◌, refl, sym, ap, ◌∙◌}
-use Prim.Native.Nat.{ℕ, ◌+◌, ◌-◌, ◌≤◌}
-use native.Mathlib.Omega.{arith}
+use mathlib.Core.Path.{◌≡◌}
+use Prim.Native.Nat.{◌+◌, ◌-◌, ◌≤◌}
 use lib.ListN.{length}
 use Rattle.fields.specs.Field.{stored}
-use Rattle.fields.specs.FieldLaws.{stored_none}
 use Rattle.lines_text.specs.LineWords.{fields}
-use Rattle.lines_text.specs.Placed.{fields_none, fields_within, length_fields, put_fields}
 use Rattle.lines_text.proofs.figures.put_fields.Given as goal
 
 abbrev pub invariant-loop-i : goal.invariant-loop-i

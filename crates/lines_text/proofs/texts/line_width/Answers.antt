@@ -1,7 +1,6 @@
 -- `lines_text::texts::line_width` meets its contract: head, fields, newline. Assumes nothing.
 use native.Mathlib.Omega.{arith}
 use Rattle.lines_text.specs.Placed.{words_few, length_line}
-use borrow.Author.Rules.{rules}
 use Rattle.lines_text.proofs.texts.line_width.Goals as goal
 
 pub fields_width-requires : goal.fields_width-requires

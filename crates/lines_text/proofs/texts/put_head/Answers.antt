@@ -5,7 +5,6 @@ use lib.ListN.{length, length-set}
 use Rattle.fields.specs.Field.{stored}
 use Rattle.lines_text.specs.Digits.{put_byte}
 use Rattle.lines_text.specs.Placed.{head_day, head_other, head_some, put_three}
-use borrow.Author.Rules.{rules}
 use Rattle.lines_text.proofs.texts.put_head.Goals as goal
 
 pub bounds-buffer-at : goal.bounds-buffer-at

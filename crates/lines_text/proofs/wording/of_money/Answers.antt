@@ -1,5 +1,4 @@
 -- `lines_text::wording::of_money` meets its contract: sign and size are what `units` promises of them. Assumes nothing.
-use borrow.Author.Rules.{rules}
 use Rattle.lines_text.proofs.wording.of_money.Goals as goal
 
 pub returns : goal.returns

@@ -1,5 +1,4 @@
 -- `lines_text::wording::of_shares` meets its contract: sign and size are what `units` promises of them. Assumes nothing.
-use borrow.Author.Rules.{rules}
 use Rattle.lines_text.proofs.wording.of_shares.Goals as goal
 
 pub returns : goal.returns

@@ -4,7 +4,6 @@ use mathlib.Core.List.{[], ◌∷◌}
 use Prim.Native.Nat.{ℕ}
 use Rattle.lines_text.specs.declared.Figure.{Figure}
 use Rattle.lines_text.specs.LineWords.{worded, words_of}
-use borrow.Author.Rules.{rules}
 use Rattle.lines_text.proofs.wording.words_of.Goals as goal
 
 same : (h n : ℕ) {a b c d e a' b' c' d' e' : Figure} → a ≡ a' → b ≡ b' → c ≡ c' → d ≡ d' → e ≡ e'

@@ -1,23 +1,12 @@
 -- `netting::nets::with_nets` meets its contract. The invariant of the loop over accounts: behind the open positions stand the nets of the
 -- accounts before; of the loop over an account's securities: and those of its securities before. Assumes nothing.
-use borrow.Author.Rules.{rules}
-use borrow.Author.Tests.{not-true, not-false}
-use native.Mathlib.Omega.{arith}
 use Prim.Native.Nat.{ℕ, ◌+◌, ◌-◌, ◌*◌, ◌≤◌}
-use mathlib.Core.Path.{◌≡◌, sym, ap, ap₂, ◌∙◌}
 use mathlib.Core.List.{List}
-use lib.ListN.{get_or, take}
-use Rattle.rules.specs.Book.{no_position, open_of, list_of}
+use Rattle.rules.specs.Book.{open_of, list_of}
 use Rattle.rules.specs.Layout.{book_of}
-use Rattle.rules.specs.Nets.{net_of}
 use Rattle.rules.specs.declared.Position.{Position}
-use Rattle.rules.specs.declared.Trade.{Trade}
 use Rattle.rules.specs.declared.Book.{Book}
-use Rattle.laws.specs.SoundParts.{sound_parts, day_small}
-use Rattle.laws.specs.Listed.{listed_accounts, listed_securities, listed_limits}
-use Rattle.laws.specs.Blanks.{entries_few}
-use Rattle.book.specs.Views.{positions_long}
-use Rattle.netting.specs.Filling.{Filled, filled_none, filled_at, filled_same, filled_full, filled_more, filled_next, filled_all, filled_past}
+use Rattle.netting.specs.Filling.{Filled}
 use Rattle.netting.proofs.nets.with_nets.Given as goal
 
 -- the open positions of a book and the nets of the pairs before i

@@ -1,13 +1,8 @@
 -- `netting_account::account::account_nets` meets its contract. The loop's invariant: the rows are the nets of the trades before `i`. Assumes nothing.
-use borrow.Author.Rules.{rules}
-use borrow.Author.Tests.{not-true}
-use native.Mathlib.Omega.{arith}
-use Prim.Native.Nat.{◌-◌, ◌<◌, ◌≤◌}
-use mathlib.Core.Path.{◌≡◌, sym, ◌∙◌}
-use lib.ListN.{length, get_or}
-use Rattle.fields.specs.Lengths.{unmapped}
-use Rattle.rules.specs.Book.{no_trade}
-use Rattle.netting_account.specs.AccountNets.{NetsTo, nets_all, limits_here, security_here, nets_same, row_within, nets_more}
+use Prim.Native.Nat.{◌-◌, ◌≤◌}
+use mathlib.Core.Path.{◌≡◌}
+use lib.ListN.{length}
+use Rattle.netting_account.specs.AccountNets.{NetsTo}
 use Rattle.netting_account.proofs.account.account_nets.Given as goal
 
 abbrev pub invariant-loop-i : goal.invariant-loop-i

@@ -1,12 +1,9 @@
 -- `netting_account::account::no_nets` meets its contract. The loop's invariant: the rows before `s` are nets of no trades. Assumes nothing.
 use borrow.Author.Rules.{rules}
 use native.Mathlib.Omega.{arith}
-use Prim.Native.Nat.{◌-◌, ◌≤◌}
-use mathlib.Core.Path.{◌≡◌}
 use mathlib.Core.List.{[]}
-use lib.ListN.{length}
 use Rattle.netting_account.specs.OneTrade.{net_none}
-use Rattle.netting_account.specs.AccountNets.{NetsBefore, row_more}
+use Rattle.netting_account.specs.AccountNets.{row_more}
 use Rattle.netting_account.proofs.account.no_nets.Goals as goal
 
 pub loop-s-init : goal.loop-s-init
@@ -20,4 +17,4 @@ loop-s-preserved c =
     (omega arith, search rules, row_more a.due [] a.account l.rows l.s _ (omega (arith, l.invariant.1)) none l.invariant.2)
 
 pub returns : goal.returns
-returns c = let l = c.loop-s in l.invariant.2 s (omega arith)
+returns c = λ s h. let l = c.loop-s in l.invariant.2 s (omega arith)

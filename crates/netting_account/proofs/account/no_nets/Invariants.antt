@@ -1,12 +1,9 @@
 -- `netting_account::account::no_nets` meets its contract. The loop's invariant: the rows before `s` are nets of no trades. Assumes nothing.
-use borrow.Author.Rules.{rules}
-use native.Mathlib.Omega.{arith}
 use Prim.Native.Nat.{◌-◌, ◌≤◌}
 use mathlib.Core.Path.{◌≡◌}
 use mathlib.Core.List.{[]}
 use lib.ListN.{length}
-use Rattle.netting_account.specs.OneTrade.{net_none}
-use Rattle.netting_account.specs.AccountNets.{NetsBefore, row_more}
+use Rattle.netting_account.specs.AccountNets.{NetsBefore}
 use Rattle.netting_account.proofs.account.no_nets.Given as goal
 
 abbrev pub invariant-loop-s : goal.invariant-loop-s

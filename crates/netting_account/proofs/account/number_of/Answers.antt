@@ -1,5 +1,4 @@
 -- `netting_account::account::number_of` meets its contract. Assumes nothing.
-use borrow.Author.Rules.{rules}
 use mathlib.Core.Path.{refl}
 use Rattle.rules.specs.Book.{number_of}
 use Rattle.netting_account.proofs.account.number_of.Goals as goal

@@ -1,8 +1,6 @@
 -- `netting_account::named::next_named` meets its contract. The loop's invariant: the flags before `account` are down. Assumes nothing.
-use borrow.Author.Rules.{rules}
-use native.Mathlib.Omega.{arith}
 use Prim.Native.Nat.{◌-◌, ◌≤◌}
-use Rattle.netting_account.specs.Named.{Down, down_more}
+use Rattle.netting_account.specs.Named.{Down}
 use Rattle.netting_account.proofs.named.next_named.Given as goal
 
 abbrev pub invariant-loop-account : goal.invariant-loop-account

@@ -1,5 +1,4 @@
 -- `netting_account::one_trade::less_sold` meets its contract. Assumes nothing.
-use borrow.Author.Rules.{rules}
 use borrow.Author.Tests.{eq-eqb, ne_eqb}
 use mathlib.Core.Path.{◌∙◌}
 use Rattle.netting_account.specs.OneTrade.{sold_yes, sold_no}

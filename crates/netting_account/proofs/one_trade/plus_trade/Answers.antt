@@ -1,5 +1,4 @@
 -- `netting_account::one_trade::plus_trade` meets its contract. Assumes nothing.
-use borrow.Author.Rules.{rules}
 use native.Mathlib.Omega.{arith}
 use Rattle.netting_account.specs.OneTrade.{trade_added, limits}
 use Rattle.netting_account.proofs.one_trade.plus_trade.Goals as goal

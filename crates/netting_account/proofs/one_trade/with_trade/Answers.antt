@@ -1,5 +1,4 @@
 -- `netting_account::one_trade::with_trade` meets its contract. Assumes nothing.
-use borrow.Author.Rules.{rules}
 use mathlib.Core.Path.{ap, ◌∙◌}
 use Rattle.rules.specs.declared.Position.{Position}
 use Rattle.netting_account.specs.OneTrade.{less_sold, with_trade}

@@ -1,5 +1,4 @@
 -- `offsetting::borders::counted` meets its contract. Assumes nothing.
-use borrow.Author.Rules.{rules}
 use borrow.Author.Tests.{lt-ltb, le-ltb}
 use Rattle.offsetting.proofs.borders.counted.Goals as goal
 

@@ -1,15 +1,11 @@
 -- `offsetting::walk::offset_rows` meets its contract. Both loops' invariants say that what is left to do from here comes to what the rule
 -- comes to: `Outside` between two newly due rows; `Inside` while row i meets the older ones, kept for whatever book the walk began with. Assumes
 -- nothing.
-use borrow.Author.Rules.{rules}
-use mathlib.Core.Path.{sym, ◌∙◌}
-use Prim.Native.Nat.{◌-◌}
-use native.Mathlib.Omega.{arith}
-use borrow.Author.Tests.{not-true}
+use Rattle.std.proofs.Common.{◌-◌}
 use Rattle.rules.specs.Layout.{book_of}
 use Rattle.rules.specs.declared.Book.{Book}
-use Rattle.offsetting.specs.Walk.{Walking, in_use, pass, whole}
-use Rattle.offsetting.specs.Bytes.{Started, Outside, Inside, started, outside_start, row_below, code_below, whole_room, inside_start, outside_next, outside_end, inside_passed, meet_asks, inside_met}
+use Rattle.offsetting.specs.Walk.{Walking}
+use Rattle.offsetting.specs.Bytes.{Outside, Inside}
 use Rattle.offsetting.proofs.walk.offset_rows.Given as goal
 
 abbrev pub invariant-older : goal.invariant-older

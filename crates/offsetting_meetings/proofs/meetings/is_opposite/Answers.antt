@@ -1,5 +1,4 @@
 -- `offsetting_meetings::meetings::is_opposite` meets its contract. Assumes nothing.
-use borrow.Author.Rules.{rules}
 use mathlib.Core.Path.{sym, ◌∙◌}
 use Rattle.rules.specs.Book.{is_zero}
 use Rattle.rules.specs.Roll.{opposite}

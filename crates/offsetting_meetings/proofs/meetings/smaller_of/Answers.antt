@@ -1,5 +1,4 @@
 -- `offsetting_meetings::meetings::smaller_of` meets its contract. Assumes nothing.
-use borrow.Author.Rules.{rules}
 use native.Mathlib.Omega.{arith}
 use Rattle.rules.specs.Roll.{smaller}
 use Rattle.offsetting_meetings.proofs.meetings.smaller_of.Goals as goal

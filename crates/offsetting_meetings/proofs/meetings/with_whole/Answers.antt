@@ -1,5 +1,4 @@
 -- `offsetting_meetings::meetings::with_whole` meets its contract. Assumes nothing.
-use borrow.Author.Rules.{rules}
 use mathlib.Core.Path.{sym, ap, ◌∙◌}
 use Rattle.units.specs.Units.{mils}
 use Rattle.rules.specs.Book.{is_zero}

@@ -1,10 +1,7 @@
 -- `parts::packing::clear_rows` meets its contract. The loop's invariant: the rows from `from` up to i are zero. Assumes nothing.
-use native.Mathlib.Omega.{arith}
-use mathlib.Core.Path.{refl}
 use Prim.Native.Nat.{◌-◌, ◌≤◌}
 use Rattle.rules.specs.Layout.{book_of}
-use Rattle.book.specs.Views.{positions_long}
-use Rattle.parts.specs.Packing.{Clearing, clearing_start, clearing_more, clearing_end}
+use Rattle.parts.specs.Packing.{Clearing}
 use Rattle.parts.proofs.packing.clear_rows.Given as goal
 
 abbrev pub invariant-loop-i : goal.invariant-loop-i

@@ -1,5 +1,4 @@
 -- `parts::taking::rest_of` meets its contract. Assumes nothing.
-use borrow.Author.Rules.{rules}
 use mathlib.Core.Path.{◌≡◌, ap, ◌∙◌}
 use Prim.Native.Nat.{ℕ}
 use lib.IntN.{ℤ, ◌-ℤ◌}

@@ -1,5 +1,4 @@
 -- `settling::run::run_refusal` meets its contract. Assumes nothing.
-use borrow.Author.Rules.{rules}
 use borrow.Author.Tests.{lt-ltb, le-ltb}
 use mathlib.Core.Path.{sym, ap₂, ◌∙◌}
 use Rattle.rules.specs.Words.{above}

@@ -2,20 +2,12 @@
 -- while row g gives; the inner loop keeps this for whatever book and shares the walk began with. A turn of the inner loop passes a receiver that wants nothing,
 -- or is a meeting, behind which the giver owes less: so its measure falls. Where nothing is left to give, what is left to do does nothing
 -- (`label_end`). Assumes nothing.
-use borrow.Author.Rules.{rules}
-use native.Mathlib.Omega.{arith}
-use mathlib.Core.Path.{◌≡◌, sym, ap, ap₂, ◌∙◌}
-use mathlib.Core.Logic.{⊎_elim}
-use Prim.Native.Nat.{ℕ, ◌+◌, ◌-◌, min, ◌<◌, ◌≤◌}
-use lib.ListN.{get_or}
-use Rattle.rules.specs.Book.{account_of, holding_at}
+use Prim.Native.Nat.{ℕ, ◌+◌, ◌-◌}
 use Rattle.rules.specs.Layout.{book_of}
 use Rattle.rules.specs.declared.Book.{Book}
 use Rattle.laws.specs.Rows.{row}
-use Rattle.laws.specs.Walk.{owes, wants}
-use Rattle.laws.specs.SoundRun.{sound_runnable}
-use Rattle.laws.specs.SoundBytes.{shaped}
-use Rattle.settling.specs.Bytes.{Started, gives_same, Outside, Inside, outside_start, inside_start, inside_next, outside_next, outside_spent, outside_end, meet_asks, meet_left, inside_met, meet_less, label_end}
+use Rattle.laws.specs.Walk.{owes}
+use Rattle.settling.specs.Bytes.{Started, Outside, Inside}
 use Rattle.settling.proofs.walk.walk.Given as goal
 
 abbrev pub invariant-receivers : goal.invariant-receivers

@@ -1,8 +1,7 @@
 -- `settling_counts::counts::held_of` meets its contract. The loop's invariant: the first a accounts have what they hold. Assumes nothing.
-use borrow.Author.Rules.{rules}
 use native.Mathlib.Omega.{arith}
 use mathlib.Core.Path.{refl, subst}
-use Prim.Native.Nat.{ℕ, ◌-◌, ◌≤◌}
+use Prim.Native.Nat.{ℕ}
 use Rattle.rules.specs.Book.{holding_at}
 use Rattle.rules.specs.Layout.{book_of}
 use Rattle.settling_counts.specs.Holders.{Holders, holders_none, holders_more}

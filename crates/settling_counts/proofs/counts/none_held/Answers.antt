@@ -3,14 +3,10 @@ use borrow.Author.Rules.{rules}
 use borrow.Author.Tests.{eq-eqb, ne_eqb}
 use native.Mathlib.Omega.{arith}
 use mathlib.Core.Path.{◌≡◌}
-use mathlib.Core.Bool.{true}
-use Prim.Native.Nat.{◌-◌, ◌≤◌}
-use lib.ListN.{length, take}
-use Rattle.rules.specs.Words.{all}
+use lib.ListN.{length}
 use Rattle.laws.specs.Walks.{all_none, all_more, all_fails, all_done}
 use Rattle.settling_counts.specs.Holders.{is_none}
 use Rattle.settling_counts.proofs.counts.none_held.Goals as goal
-use Rattle.settling_counts.proofs.counts.none_held.Tie as tie
 use Rattle.settling_counts.proofs.counts.none_held.Lts as lts
 use Rattle.settling_counts.proofs.counts.none_held.Reads as reads
 

@@ -1,13 +1,9 @@
 -- `settling_counts::counts::none_held` meets its contract. The loop's invariant: the first a accounts hold nothing. Assumes nothing.
-use borrow.Author.Rules.{rules}
-use borrow.Author.Tests.{eq-eqb, ne_eqb}
-use native.Mathlib.Omega.{arith}
 use mathlib.Core.Path.{◌≡◌}
 use mathlib.Core.Bool.{true}
 use Prim.Native.Nat.{◌-◌, ◌≤◌}
-use lib.ListN.{length, take}
+use lib.ListN.{take}
 use Rattle.rules.specs.Words.{all}
-use Rattle.laws.specs.Walks.{all_none, all_more, all_fails, all_done}
 use Rattle.settling_counts.specs.Holders.{is_none}
 use Rattle.settling_counts.proofs.counts.none_held.Given as goal
 

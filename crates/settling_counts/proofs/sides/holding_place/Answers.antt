@@ -1,5 +1,4 @@
 -- `settling_counts::sides::holding_place` meets its contract. Assumes nothing.
-use borrow.Author.Rules.{rules}
 use native.Mathlib.Omega.{arith}
 use Rattle.rules.specs.Book.{holding_at}
 use Rattle.settling_counts.proofs.sides.holding_place.Goals as goal

@@ -1,5 +1,4 @@
 -- `settling_counts::sides::is_due_in` meets its contract. Assumes nothing.
-use borrow.Author.Rules.{rules}
 use borrow.Author.Tests.{eq-eqb, ne_eqb}
 use mathlib.Core.Path.{sym, ◌∙◌}
 use Rattle.laws.specs.Walk.{is_due_in}

@@ -1,14 +1,10 @@
 -- `sheet::answers::put_answers` meets its contract: the lines from record i on are left. Assumes nothing.
-use mathlib.Core.Path.{◌≡◌, refl, sym, ap, ap₂, ◌∙◌}
-use mathlib.Core.Bool.{true}
-use Prim.Native.Nat.{◌-◌, ◌≤◌}
+use mathlib.Core.Path.{refl, sym, ap, ap₂, ◌∙◌}
 use native.Mathlib.Omega.{arith}
-use lib.ListN.{length}
-use borrow.Author.Rules.{rules}
 use Rattle.rules.specs.Words.{all}
 use Rattle.rules.specs.Sheet.{answer_lines}
-use Rattle.sheet.specs.Written.{Going, going_start, going_ready, going_next, going_done}
-use Rattle.sheet.specs.Answers.{answer, answersIn, answers_left, linesLeft, placeFits, left-first, left-more, left-done, fits_more}
+use Rattle.sheet.specs.Written.{going_start, going_ready, going_next, going_done}
+use Rattle.sheet.specs.Answers.{answer, placeFits, left-first, left-more, left-done, fits_more}
 use Rattle.sheet.proofs.answers.put_answers.Goals as goal
 
 pub loop-i-init : goal.loop-i-init
@@ -55,7 +51,7 @@ loop-i-preserved c =
     let is = ap₂ answer c.get-number.ensures.0 c.get-figure.ensures.0 in
     let put = c.put_answer-tally in (
       omega arith,
-      put.auto.0 ∙ l.invariant.1,
+      put.auto.buffer ∙ l.invariant.1,
       (fits_more c.args.count c.args.answers.now l.i h l.invariant.2).1,
       going_next _ _ _ _ _ _ _ _ _ _ _ l.invariant.3 (left-more _ _ _ _ h is) put.ensures,
     )

@@ -1,20 +1,18 @@
 -- `sheet::answers::put_answers` meets its contract: the lines from record i on are left. Assumes nothing.
-use mathlib.Core.Path.{◌≡◌, refl, sym, ap, ap₂, ◌∙◌}
+use mathlib.Core.Path.{◌≡◌}
 use mathlib.Core.Bool.{true}
 use Prim.Native.Nat.{◌-◌, ◌≤◌}
-use native.Mathlib.Omega.{arith}
 use lib.ListN.{length}
-use borrow.Author.Rules.{rules}
 use Rattle.rules.specs.Words.{all}
 use Rattle.rules.specs.Sheet.{answer_lines}
-use Rattle.sheet.specs.Written.{Going, going_start, going_ready, going_next, going_done}
-use Rattle.sheet.specs.Answers.{answer, answersIn, answers_left, linesLeft, placeFits, left-first, left-more, left-done, fits_more}
+use Rattle.sheet.specs.Written.{Going}
+use Rattle.sheet.specs.Answers.{answersIn, answers_left, linesLeft, placeFits}
 use Rattle.sheet.proofs.answers.put_answers.Given as goal
 
 abbrev pub invariant-loop-i : goal.invariant-loop-i
 invariant-loop-i l =
     (l.i ≤ l.count) × (length l.buffer ≡ length l.initial.buffer) × (all placeFits (answers_left l.count l.answers l.i) ≡ true)
-    × Going l.write l.initial.buffer l.initial.reach (answer_lines 0 (answersIn l.count l.answers)) l.buffer l.reach (linesLeft l.count l.answers l.i)
+    × Going l.write l.initial.buffer l.initial.tally (answer_lines 0 (answersIn l.count l.answers)) l.buffer l.tally (linesLeft l.count l.answers l.i)
 
 abbrev pub decreases-loop-i : goal.decreases-loop-i
 decreases-loop-i l = l.count - l.i

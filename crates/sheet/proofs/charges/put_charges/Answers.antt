@@ -1,10 +1,8 @@
 -- `sheet::charges::put_charges` meets its contract: the lines from place i on are left. Assumes nothing.
-use mathlib.Core.Path.{◌≡◌, refl, ◌∙◌}
-use Prim.Native.Nat.{◌-◌, ◌≤◌}
+use mathlib.Core.Path.{refl, ◌∙◌}
 use native.Mathlib.Omega.{arith}
-use lib.ListN.{length}
-use Rattle.sheet.specs.Written.{Going, going_start, going_ready, going_next, going_done}
-use Rattle.sheet.specs.BookLines.{entry_lines, charges_left, charges_first, charges_more, charges_done}
+use Rattle.sheet.specs.Written.{going_start, going_ready, going_next, going_done}
+use Rattle.sheet.specs.BookLines.{charges_first, charges_more, charges_done}
 use Rattle.sheet.proofs.charges.put_charges.Goals as goal
 
 pub loop-i-init : goal.loop-i-init
@@ -39,7 +37,7 @@ loop-i-preserved c =
     let l = c.loop-i in
     let h = c.loop-i-test.true in
     let put = c.put_charge-tally in
-    (omega arith, put.auto.0 ∙ l.invariant.1, going_next _ _ _ _ _ _ _ _ _ _ _ l.invariant.2 (charges_more c.args.charges l.i h) put.ensures)
+    (omega arith, put.auto.buffer ∙ l.invariant.1, going_next _ _ _ _ _ _ _ _ _ _ _ l.invariant.2 (charges_more c.args.charges l.i h) put.ensures)
 
 pub returns : goal.returns
 returns c =

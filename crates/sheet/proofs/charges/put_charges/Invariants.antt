@@ -1,15 +1,14 @@
 -- `sheet::charges::put_charges` meets its contract: the lines from place i on are left. Assumes nothing.
-use mathlib.Core.Path.{◌≡◌, refl, ◌∙◌}
+use mathlib.Core.Path.{◌≡◌}
 use Prim.Native.Nat.{◌-◌, ◌≤◌}
-use native.Mathlib.Omega.{arith}
 use lib.ListN.{length}
-use Rattle.sheet.specs.Written.{Going, going_start, going_ready, going_next, going_done}
-use Rattle.sheet.specs.BookLines.{entry_lines, charges_left, charges_first, charges_more, charges_done}
+use Rattle.sheet.specs.Written.{Going}
+use Rattle.sheet.specs.BookLines.{entry_lines, charges_left}
 use Rattle.sheet.proofs.charges.put_charges.Given as goal
 
 abbrev pub invariant-loop-i : goal.invariant-loop-i
 invariant-loop-i l =
-    (l.i ≤ 256) × (length l.buffer ≡ length l.initial.buffer) × Going l.write l.initial.buffer l.initial.reach (entry_lines l.charges) l.buffer l.reach (charges_left l.charges l.i)
+    (l.i ≤ 256) × (length l.buffer ≡ length l.initial.buffer) × Going l.write l.initial.buffer l.initial.tally (entry_lines l.charges) l.buffer l.tally (charges_left l.charges l.i)
 
 abbrev pub decreases-loop-i : goal.decreases-loop-i
 decreases-loop-i l = 256 - l.i

@@ -1,5 +1,4 @@
 -- `sheet::one::put_one` meets its contract: the line written behind what the tally has counted, or only counted. Assumes nothing.
-use borrow.Author.Rules.{rules}
 use mathlib.Core.Path.{refl}
 use native.Mathlib.Omega.{arith}
 use Rattle.sheet.specs.Written.{counted_one, written_one}

@@ -1,5 +1,4 @@
 -- `sheet::open::open_line` meets its contract. Assumes nothing.
-use borrow.Author.Rules.{rules}
 use Rattle.sheet.specs.BookLines.{open_is}
 use Rattle.sheet.proofs.open.open_line.Goals as goal
 

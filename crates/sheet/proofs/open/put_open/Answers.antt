@@ -1,29 +1,13 @@
 -- `sheet::open::put_open` meets its contract: the lines from record i on are left. Assumes nothing.
 use mathlib.Core.Path.{◌≡◌, refl, ◌∙◌}
-use mathlib.Core.List.{map}
-use Prim.Native.Nat.{◌-◌, ◌≤◌}
+use Prim.Native.Nat.{◌≤◌}
 use native.Mathlib.Omega.{arith}
-use lib.ListN.{length, take}
+use lib.ListN.{length}
 use borrow.Author.Rules.{rules}
 use Rattle.fields.specs.Lengths.{unmapped}
-use Rattle.rules.specs.Sheet.{open_line}
-use Rattle.sheet.specs.Written.{Going, going_start, going_ready, going_next, going_done}
-use Rattle.sheet.specs.BookLines.{open_left, open_more, open_done}
+use Rattle.sheet.specs.Written.{going_start, going_ready, going_next, going_done}
+use Rattle.sheet.specs.BookLines.{open_more, open_done}
 use Rattle.sheet.proofs.open.put_open.Goals as goal
-use Rattle.sheet.proofs.open.put_open.Tie as tie
-use Rattle.sheet.proofs.open.put_open.Lts as lts
-use Rattle.sheet.proofs.open.put_open.Reads as reads
-
--- ── what is known at a place of the code, to say a fact once for several goals ──
-
-abbrev Start : Type 0
-Start = lts.Start tie.the-claims reads.Pre reads.Post goal.the-invariant-loop-i goal.the-decreases-loop-i
-
-long : (c : Start) → length c.args.positions ≡ 1024
-long c = search (rules, unmapped)
-
-room : (c : Start) → c.args.records ≤ length c.args.positions
-room c = omega (arith, long c, c.requires.0)
 
 pub loop-i-init : goal.loop-i-init
 loop-i-init c = (omega arith, refl, going_start _ _ _ _ _ _ c.requires.1 refl)
@@ -37,8 +21,10 @@ bounds-positions-i c = omega (arith, c.requires.0)
 pub put_one-tally-requires : goal.put_one-tally-requires
 put_one-tally-requires c =
     let l = c.loop-i in
+    let long : length c.args.positions ≡ 1024 = search (rules, unmapped) in
+    let room : c.args.records ≤ length c.args.positions = omega (arith, c.requires.0) in
     going_ready _ _ _ _ _ _ _ _ _ _ _ l.invariant.1 c.requires.1 l.invariant.2
-    (open_more c.args.positions c.args.records l.i _ (room c.before.before.before.before.before.before) c.loop-i-test.true c.open_line.ensures)
+    (open_more c.args.positions c.args.records l.i _ room c.loop-i-test.true c.open_line.ensures)
 
 pub overflow_add-i : goal.overflow_add-i
 overflow_add-i c = omega (arith, c.requires.0)
@@ -49,11 +35,13 @@ loop-i-smaller c = omega arith
 pub loop-i-preserved : goal.loop-i-preserved
 loop-i-preserved c =
     let l = c.loop-i in
+    let long : length c.args.positions ≡ 1024 = search (rules, unmapped) in
+    let room : c.args.records ≤ length c.args.positions = omega (arith, c.requires.0) in
     let put = c.put_one-tally in (
       omega arith,
-      put.auto.0 ∙ l.invariant.1,
+      put.auto.buffer ∙ l.invariant.1,
       going_next _ _ _ _ _ _ _ _ _ _ _ l.invariant.2
-          (open_more c.args.positions c.args.records l.i _ (room c.before.before.before.before.before.before.before.before.before.before) c.loop-i-test.true
+          (open_more c.args.positions c.args.records l.i _ room c.loop-i-test.true
           c.open_line.ensures)
           put.ensures,
     )
@@ -61,4 +49,6 @@ loop-i-preserved c =
 pub returns : goal.returns
 returns c =
     let l = c.loop-i in
-    going_done _ _ _ _ _ _ _ l.invariant.2 (open_done c.args.positions c.args.records l.i (room c.before.before.before) (omega arith))
+    let long : length c.args.positions ≡ 1024 = search (rules, unmapped) in
+    let room : c.args.records ≤ length c.args.positions = omega (arith, c.requires.0) in
+    going_done _ _ _ _ _ _ _ l.invariant.2 (open_done c.args.positions c.args.records l.i room (omega arith))

@@ -1,20 +1,17 @@
 -- `sheet::open::put_open` meets its contract: the lines from record i on are left. Assumes nothing.
-use mathlib.Core.Path.{◌≡◌, refl, ◌∙◌}
+use mathlib.Core.Path.{◌≡◌}
 use mathlib.Core.List.{map}
 use Prim.Native.Nat.{◌-◌, ◌≤◌}
-use native.Mathlib.Omega.{arith}
 use lib.ListN.{length, take}
-use borrow.Author.Rules.{rules}
-use Rattle.fields.specs.Lengths.{unmapped}
 use Rattle.rules.specs.Sheet.{open_line}
-use Rattle.sheet.specs.Written.{Going, going_start, going_ready, going_next, going_done}
-use Rattle.sheet.specs.BookLines.{open_left, open_more, open_done}
+use Rattle.sheet.specs.Written.{Going}
+use Rattle.sheet.specs.BookLines.{open_left}
 use Rattle.sheet.proofs.open.put_open.Given as goal
 
 abbrev pub invariant-loop-i : goal.invariant-loop-i
 invariant-loop-i l =
     (l.i ≤ l.records) × (length l.buffer ≡ length l.initial.buffer)
-    × Going l.write l.initial.buffer l.initial.reach (map open_line (take l.records l.positions)) l.buffer l.reach (open_left l.positions l.records l.i)
+    × Going l.write l.initial.buffer l.initial.tally (map open_line (take l.records l.positions)) l.buffer l.tally (open_left l.positions l.records l.i)
 
 abbrev pub decreases-loop-i : goal.decreases-loop-i
 decreases-loop-i l = l.records - l.i

@@ -2,7 +2,6 @@
 use mathlib.Core.Path.{refl, ◌∙◌}
 use mathlib.Core.List.{map}
 use lib.ListN.{take}
-use borrow.Author.Rules.{rules}
 use Rattle.rules.specs.Sheet.{open_line}
 use Rattle.sheet.specs.Written.{ready_first, ready_second, ready_third, wrote_three}
 use Rattle.sheet.specs.BookLines.{entry_lines}
@@ -17,13 +16,13 @@ put_one-day-requires c =
 pub put_open-open-requires : goal.put_open-open-requires
 put_open-open-requires c =
     let day = c.put_one-day in
-    (c.requires.0, ready_second _ _ _ _ _ _ _ _ c.requires.1 (book_lines_lem c.args.k) _ _ day.ensures _ day.auto.0)
+    (c.requires.0, ready_second _ _ _ _ _ _ _ _ c.requires.1 (book_lines_lem c.args.k) _ _ day.ensures _ day.auto.buffer)
 
 pub put_charges-requires : goal.put_charges-requires
 put_charges-requires c =
     let day = c.put_one-day in
     let open' = c.put_open-open in
-    ready_third _ _ _ _ _ _ _ _ c.requires.1 (book_lines_lem c.args.k) _ _ day.ensures _ _ open'.ensures _ (open'.auto.0 ∙ day.auto.0)
+    ready_third _ _ _ _ _ _ _ _ c.requires.1 (book_lines_lem c.args.k) _ _ day.ensures _ _ open'.ensures _ (open'.auto.buffer ∙ day.auto.buffer)
 
 pub returns : goal.returns
 returns c =

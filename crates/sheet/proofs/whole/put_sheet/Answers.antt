@@ -1,5 +1,4 @@
 -- `sheet::whole::put_sheet` meets its contract: the walk that writes. Assumes nothing.
-use borrow.Author.Rules.{rules}
 use Rattle.sheet.specs.Whole.{width_is, bytes_are}
 use Rattle.sheet.proofs.whole.put_sheet.Goals as goal
 

@@ -1,6 +1,5 @@
 -- `sheet::whole::sheet_width` meets its contract: the walk that only measures. Assumes nothing.
 use mathlib.Core.Path.{refl}
-use borrow.Author.Rules.{rules}
 use Rattle.laws.specs.Cases.{true_false}
 use Rattle.sheet.specs.Whole.{width_is}
 use Rattle.sheet.proofs.whole.sheet_width.Goals as goal

@@ -1,12 +1,7 @@
 -- `sound_positions::balance::sums_zero` meets its contract. The sums of the securities before `s` are zero. Assumes nothing.
-use borrow.Author.Rules.{rules}
-use borrow.Author.Tests.{not-true, not-false}
 use mathlib.Core.Path.{◌≡◌, sym, ◌∙◌}
-use mathlib.Core.Bool.{true}
-use Prim.Native.Nat.{◌≤◌, ◌-◌}
 use native.Mathlib.Omega.{arith}
-use lib.ListN.{get_or, take}
-use Rattle.rules.specs.Words.{all}
+use lib.ListN.{get_or}
 use Rattle.rules.specs.Bounds.{every_security}
 use Rattle.rules.specs.Book.{is_zero}
 use Rattle.laws.specs.Walks.{all_none, all_more, all_fails, all_done}
@@ -34,14 +29,14 @@ loop-s-init c = (omega arith, all_none (zero_at c.args.sums) every_security)
 pub returns-then-not-is_zero : goal.returns-then-not-is_zero
 returns-then-not-is_zero c =
     all_fails (zero_at c.args.sums) every_security c.loop-s.s 0 (omega (arith, securities_length))
-    (tested c.before ∙ not-true _ c.if-not-is_zero.true)
+    (tested c.before ∙ c.if-not-is_zero.true)
 
 pub loop-s-preserved : goal.loop-s-preserved
 loop-s-preserved c =
     let l = c.loop-s in (
       omega arith,
       all_more (zero_at c.args.sums) every_security l.s 0 (omega (arith, securities_length)) l.invariant.1
-          (tested c.before ∙ not-false _ c.if-not-is_zero.false),
+          (tested c.before ∙ c.if-not-is_zero.false),
     )
 
 pub returns : goal.returns

@@ -1,5 +1,4 @@
 -- `sound_positions::due::day_fits` meets its contract. Assumes nothing.
-use borrow.Author.Rules.{rules}
 use Rattle.rules.specs.Sound.{due_fits}
 use Rattle.sound_positions.proofs.due.day_fits.Goals as goal
 

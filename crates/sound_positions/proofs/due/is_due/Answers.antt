@@ -1,5 +1,4 @@
 -- `sound_positions::due::is_due` meets its contract. Assumes nothing.
-use borrow.Author.Rules.{rules}
 use Rattle.rules.specs.Sound.{is_due}
 use Rattle.sound_positions.proofs.due.is_due.Goals as goal
 

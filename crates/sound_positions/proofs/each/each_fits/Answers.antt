@@ -1,12 +1,8 @@
--- `sound_positions::each::each_fits_lem` meets its contract. The records before i ascend and pass the test. Assumes nothing.
-use borrow.Author.Rules.{rules}
-use borrow.Author.Tests.{not-true, not-false}
+-- `sound_positions::each::each_fits` meets its contract. The records before i ascend and pass the test. Assumes nothing.
 use mathlib.Core.Path.{◌≡◌, sym, ap, ◌∙◌}
 use mathlib.Core.Bool.{Bool, true, ◌&&◌, and-false}
-use Prim.Native.Nat.{◌≤◌, ◌-◌}
 use native.Mathlib.Omega.{arith}
-use lib.ListN.{get_or, take}
-use Rattle.rules.specs.Words.{all}
+use lib.ListN.{get_or}
 use Rattle.rules.specs.Book.{no_position, open_of}
 use Rattle.rules.specs.Layout.{book_of}
 use Rattle.rules.specs.Sound.{ascends}
@@ -15,7 +11,7 @@ use Rattle.rules.specs.declared.Book.{Book}
 use Rattle.laws.specs.Walks.{all_none, all_more}
 use Rattle.book.specs.Views.{positions_long}
 use Rattle.sound_positions.specs.Table.{take_fails, take_done}
-use Rattle.sound_positions.specs.Ascent.{number_at, least_at, least_first, least_next, ascends_few, ascends_more, ascends_fails}
+use Rattle.sound_positions.specs.Ascent.{number_at, least_first, least_next, ascends_few, ascends_more, ascends_fails}
 use Rattle.sound_positions.specs.Each.{record_fits, each_fits, each_fits_lem}
 use Rattle.sound_positions.proofs.each.each_fits.Goals as goal
 use Rattle.sound_positions.proofs.each.each_fits.Tie as tie
@@ -67,7 +63,7 @@ returns-then-not-record_fits c =
     sym (and-false (ascends (open_of k)))
     ∙ ap (λ (t : Bool). ascends (open_of k) && t)
     (take_fails (record_fits k.day) k.positions k.records c.loop-i.i no_position (omega (arith, positions_long bs)) (omega arith)
-    (tested c.before.before ∙ not-true _ c.if-not-record_fits.true)
+    (tested c.before.before ∙ c.if-not-record_fits.true)
     ∙ each_fits_lem k)
 
 pub loop-i-preserved : goal.loop-i-preserved
@@ -82,7 +78,7 @@ loop-i-preserved c =
         (
           ascends_more k.positions l.i (omega (arith, positions_long bs)) l.invariant.1.1.0 (omega (arith, number, l.invariant.1.0)),
           all_more (record_fits k.day) k.positions l.i no_position (omega (arith, positions_long bs)) l.invariant.1.1.1
-              (tested c.before.before ∙ not-false _ c.if-not-record_fits.false),
+              (tested c.before.before ∙ c.if-not-record_fits.false),
         ),
       ),
     )

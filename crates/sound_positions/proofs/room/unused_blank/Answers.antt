@@ -1,8 +1,6 @@
 -- `sound_positions::room::unused_blank` meets its contract. What is left to test decides. Assumes nothing.
-use borrow.Author.Rules.{rules}
-use borrow.Author.Tests.{not-true, not-false}
 use mathlib.Core.Path.{◌≡◌, refl, sym, ap, ◌∙◌}
-use Prim.Native.Nat.{ℕ, ◌≤◌, ◌-◌}
+use Prim.Native.Nat.{ℕ}
 use native.Mathlib.Omega.{arith}
 use lib.ListN.{get_or, drop}
 use Rattle.rules.specs.Words.{all}
@@ -39,7 +37,7 @@ pub returns-then-not-is_blank : goal.returns-then-not-is_blank
 returns-then-not-is_blank c =
     let bs = c.args.b.now in
     let l = c.loop-row in
-    drop_fails is_blank (book_of bs).positions l.row no_position (omega (arith, positions_long bs)) (tested c.before.before ∙ not-true _ c.if-not-is_blank.true)
+    drop_fails is_blank (book_of bs).positions l.row no_position (omega (arith, positions_long bs)) (tested c.before.before ∙ c.if-not-is_blank.true)
     ∙ l.invariant.1 ∙ from_first c.before.before.before.before.before.before
 
 pub loop-row-preserved : goal.loop-row-preserved
@@ -47,7 +45,7 @@ loop-row-preserved c =
     let bs = c.args.b.now in
     let l = c.loop-row in (
       omega arith,
-      drop_more is_blank (book_of bs).positions l.row no_position (omega (arith, positions_long bs)) (tested c.before.before ∙ not-false _ c.if-not-is_blank.false)
+      drop_more is_blank (book_of bs).positions l.row no_position (omega (arith, positions_long bs)) (tested c.before.before ∙ c.if-not-is_blank.false)
           ∙ l.invariant.1,
     )
 

@@ -1,5 +1,4 @@
 -- `sound_positions::signs::sign_of` meets its contract. Assumes nothing.
-use borrow.Author.Rules.{rules}
 use mathlib.Core.Path.{sym, ◌∙◌}
 use Rattle.rules.specs.Book.{is_zero}
 use Rattle.laws.specs.Cases.{true_false}

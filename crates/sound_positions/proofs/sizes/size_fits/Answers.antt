@@ -1,5 +1,4 @@
 -- `sound_positions::sizes::size_fits` meets its contract. Assumes nothing.
-use borrow.Author.Rules.{rules}
 use borrow.Author.Tests.{le-leb, lt-leb, eq-eqb, ne_eqb}
 use Rattle.rules.specs.Book.{is_zero}
 use Rattle.rules.specs.Sound.{sizes_fit, is_position}

@@ -1,13 +1,9 @@
 -- `sound_positions::together::together_fit` meets its contract. What is left decides, with the signs seen so far; the sums are those of the records before i. Assumes nothing.
-use borrow.Author.Rules.{rules}
-use borrow.Author.Tests.{not-true, not-false}
-use mathlib.Core.Path.{◌≡◌, sym, ap, ap₂, ◌∙◌}
+use mathlib.Core.Path.{◌≡◌, sym, ap, ◌∙◌}
 use mathlib.Core.Bool.{Bool, true, not, cond, ◌&&◌, ◌||◌}
 use mathlib.Core.List.{List}
-use mathlib.Core.Logic.{⊎_elim}
-use Prim.Native.Nat.{ℕ, ◌≤◌, ◌-◌}
 use native.Mathlib.Omega.{arith}
-use lib.ListN.{length, get_or, take, drop}
+use lib.ListN.{get_or, take}
 use lib.Seq.{get_or-take, length-take-le}
 use Rattle.units.specs.declared.Shares.{Shares}
 use Rattle.rules.specs.Words.{all, keep}
@@ -20,10 +16,11 @@ use Rattle.laws.specs.Cases.{both_hold, cond_yes, cond_no}
 use Rattle.laws.specs.Walks.{all_at}
 use Rattle.book.specs.Views.{positions_long}
 use Rattle.sound_positions.specs.Table.{nothing_length}
-use Rattle.sound_positions.specs.OneSign.{places, no_clash, fits_seen, with_sign, seen_length, clash_none, clash_more, clash_found, clash_done}
+use Rattle.sound_positions.specs.OneSign.{places, fits_seen, with_sign, seen_length, clash_none, clash_more, clash_found, clash_done}
 use Rattle.sound_positions.specs.Summing.{sum_in, with_quantity, with_sum, Summed, Room, room_read, summed_none, summed_step, room_for}
 use Rattle.sound_positions.specs.Balance.{is_later, balanced_sums, due_by}
 use Rattle.sound_positions.proofs.together.together_fit.Goals as goal
+use Rattle.sound_positions.proofs.together.together_fit.Goals.{then-is_due, else-is_due}
 use Rattle.sound_positions.proofs.together.together_fit.Tie as tie
 use Rattle.sound_positions.proofs.together.together_fit.Lts as lts
 use Rattle.sound_positions.proofs.together.together_fit.Reads as reads
@@ -35,9 +32,6 @@ After-is_due = lts.After-is_due tie.the-claims reads.Pre reads.Post goal.the-inv
 
 abbrev After-loop : Type 0
 After-loop = lts.After-loop tie.the-claims reads.Pre reads.Post goal.the-invariant-loop-i goal.the-decreases-loop-i
-
-abbrev After-note_sign : Type 0
-After-note_sign = lts.After-note_sign tie.the-claims reads.Pre reads.Post goal.the-invariant-loop-i goal.the-decreases-loop-i
 
 abbrev After-sign_fits : Type 0
 After-sign_fits = lts.After-sign_fits tie.the-claims reads.Pre reads.Post goal.the-invariant-loop-i goal.the-decreases-loop-i
@@ -51,9 +45,6 @@ At-loop = lts.At-loop tie.the-claims reads.Pre reads.Post goal.the-invariant-loo
 abbrev In-loop : Type 0
 In-loop = lts.In-loop tie.the-claims reads.Pre reads.Post goal.the-invariant-loop-i goal.the-decreases-loop-i
 
-abbrev Joined2 : Type 0
-Joined2 = lts.Joined2 tie.the-claims reads.Pre reads.Post goal.the-invariant-loop-i goal.the-decreases-loop-i
-
 -- ── a turn: its book, its record and the signs seen before it ──
 
 abbrev turn : After-sign_fits → At-loop
@@ -65,13 +56,9 @@ book c = book_of c.args.b.now
 abbrev this : After-sign_fits → Position
 this c = get_or (book (turn c)).positions (turn c).loop-i.i no_position
 
--- what was tested, and noted, is that record, by the book's day
+-- what was tested is that record, by the book's day
 tested : (c : After-sign_fits) → not (is_due (book (turn c)).day (this c)) || fits_seen (turn c).loop-i.seen (this c) ≡ c.sign_fits.result
 tested c = rw (← c.day_at-day.ensures, ← c.position_at-p.ensures) (sym c.sign_fits.ensures)
-
-noted : (c : After-note_sign)
-    → c.note_sign.new.0 ≡ cond (is_due (book (turn c.before.before.before)).day (this c.before.before.before)) (with_sign (turn c.before.before.before).loop-i.seen (this c.before.before.before)) (turn c.before.before.before).loop-i.seen
-noted c = rw (← c.day_at-day.ensures, ← c.position_at-p.ensures) c.note_sign.ensures
 
 -- ── what is known of the records ──
 
@@ -96,32 +83,11 @@ nonzero c =
     (all_at (due_nonzero k.day) (take k.records k.positions) l.i no_position all-nonzero
     (omega (arith, length-take-le k.records k.positions (omega (arith, positions_long bs)))))
 
--- ── the sums after a turn ──
+-- ── room for the sums of a turn ──
 
--- what a turn tested and added
-abbrev day : After-is_due → ℕ
-day c = c.day_at-day.result
-
+-- what a turn adds
 abbrev record-at : After-is_due → Position
 record-at c = c.position_at-p.result
-
-today-after : (c : Joined2)
-    → c.if-is_due.today ≡ cond (is_due (day c.before) (record-at c.before)) (with_quantity c.loop-i.today (record-at c.before)) c.loop-i.today
-today-after c =
-    let due = c.is_due.ensures in
-    ⊎_elim
-    (λ w. w.3 ∙ with_sum _ _ _ _ c.security_of-s.ensures.0 w.2.ensures ∙ sym (cond_yes _ _ (sym due ∙ w.0.taken)))
-    (λ w. w.3 ∙ sym (cond_no _ _ (sym due ∙ w.0.left)))
-    c.if-is_due.branch
-
-later-after : (c : Joined2)
-    → c.if-is_due.later ≡ cond (is_later (day c.before) (record-at c.before)) (with_quantity c.loop-i.later (record-at c.before)) c.loop-i.later
-later-after c =
-    let due = c.is_due.ensures in
-    ⊎_elim
-    (λ w. w.4 ∙ sym (cond_no _ _ (ap not (sym due ∙ w.0.taken))))
-    (λ w. w.4 ∙ with_sum _ _ _ _ c.security_of-s.ensures.0 w.2.ensures ∙ sym (cond_yes _ _ (ap not (sym due ∙ w.0.left))))
-    c.if-is_due.branch
 
 room : (c : After-is_due) (d : Position → Bool) (sums : List Shares)
     → Summed (keep d (take c.loop-i.i (book c.before.before.before.before.before.before.before.before.before).positions)) sums → Room (sum_in sums c.security_of-s.result) (record-at c)
@@ -172,7 +138,7 @@ returns-then-not-sign_fits c =
     let l = c.loop-i in
     ap (λ (t : Bool). t && due_balanced k)
     (clash_found (is_due k.day) k.positions k.records l.i l.seen (omega (arith, positions_long bs)) (omega arith)
-    (tested c.before.before ∙ not-true _ c.if-not-sign_fits.true)
+    (tested c.before.before ∙ c.if-not-sign_fits.true)
     ∙ l.invariant.1.1.0)
 
 pub note_sign-requires : goal.note_sign-requires
@@ -187,33 +153,45 @@ with_quantity-requires-else-is_due c = room c.before.before.before (is_later (bo
 pub loop-i-preserved : goal.loop-i-preserved
 unfolding open_of
 loop-i-preserved c =
-    let t = turn c.before.before.before.before.before.before.before in
-    let bs = t.before.before.before.before.args.b.now in
+    let bs = c.args.b.now in
     let k = book_of bs in
-    let l = t.loop in
-    let day = t.before.before.day-at.ensures in
-    let here = c.position_at-p.ensures in (
+    let l = c.loop-i in
+    let day = c.day_at-day.ensures in
+    let here = c.position_at-p.ensures in
+    let due = c.is_due.ensures in
+    let p : Position = get_or k.positions l.i no_position in
+    let fits : not (is_due k.day p) || fits_seen l.seen p ≡ true = rw (← day, ← here) (sym c.sign_fits.ensures ∙ c.if-not-sign_fits.false) in
+    let noted : c.note_sign.new.seen ≡ cond (is_due k.day p) (with_sign l.seen p) l.seen = rw (← day, ← here) c.note_sign.ensures in
+    -- the sums after a turn
+    let today : c.if-is_due.today ≡ cond (is_due k.day p) (with_quantity l.today p) l.today =
+    rw (← day, ← here)
+    (elim c.if-is_due.branch [
+      | then-is_due w ↦ w.today-is ∙ with_sum _ _ _ _ c.security_of-s.ensures.0 w.with_quantity.ensures ∙ sym (cond_yes _ _ (sym due ∙ w.if-is_due.true))
+      | else-is_due w ↦ w.today-is ∙ sym (cond_no _ _ (sym due ∙ w.if-is_due.false))
+    ]) in
+    let later : c.if-is_due.later ≡ cond (is_later k.day p) (with_quantity l.later p) l.later =
+    rw (← day, ← here)
+    (elim c.if-is_due.branch [
+      | then-is_due w ↦ w.later-is ∙ sym (cond_no _ _ (ap not (sym due ∙ w.if-is_due.true)))
+      | else-is_due w ↦ w.later-is ∙ with_sum _ _ _ _ c.security_of-s.ensures.0 w.with_quantity-else-is_due.ensures ∙ sym (cond_yes _ _ (ap not (sym due ∙ w.if-is_due.false)))
+    ]) in (
       omega arith,
       (
-        seen_length (is_due k.day) k.positions k.records l.i l.seen (omega (arith, positions_long bs)) _ l.inv.1.0 (noted c.before.before.before.before),
+        seen_length (is_due k.day) k.positions k.records l.i l.seen (omega (arith, positions_long bs)) _ l.invariant.1.0 noted,
         (
-          clash_more (is_due k.day) k.positions k.records l.i l.seen (omega (arith, positions_long bs)) _ (omega arith)
-              (tested c.before.before.before.before.before.before.before ∙ not-false _ c.if-not-sign_fits.false) (noted c.before.before.before.before)
-              ∙ l.inv.1.1.0,
+          clash_more (is_due k.day) k.positions k.records l.i l.seen (omega (arith, positions_long bs)) _ (omega arith) fits noted ∙ l.invariant.1.1.0,
           (
-            summed_step (is_due k.day) k.positions l.i l.today _ (omega (arith, positions_long bs)) l.inv.1.1.1.0
-                (today-after c.before ∙ ap₂ (λ (d : ℕ) (p : Position). cond (is_due d p) (with_quantity l.today p) l.today) day here),
-            summed_step (is_later k.day) k.positions l.i l.later _ (omega (arith, positions_long bs)) l.inv.1.1.1.1
-                (later-after c.before ∙ ap₂ (λ (d : ℕ) (p : Position). cond (is_later d p) (with_quantity l.later p) l.later) day here),
+            summed_step (is_due k.day) k.positions l.i l.today _ (omega (arith, positions_long bs)) l.invariant.1.1.1.0 today,
+            summed_step (is_later k.day) k.positions l.i l.later _ (omega (arith, positions_long bs)) l.invariant.1.1.1.1 later,
           ),
         ),
       ),
     )
 
 pub returns-then-not-sums_zero : goal.returns-then-not-sums_zero
-returns-then-not-sums_zero c = rw (← signs c.before.before.before, ← due_by (book c.before.before.before.before) (dues c.before.before.before.before), today-is c.before.before ∙ not-true _ c.if-not-sums_zero.true)
+returns-then-not-sums_zero c = rw (← signs c.before.before.before, ← due_by (book c.before.before.before.before) (dues c.before.before.before.before), today-is c.before.before ∙ c.if-not-sums_zero.true)
 
 pub returns : goal.returns
 returns c =
-    rw (← signs c.before.before.before.before, ← due_by (book c.before.before.before.before.before) (dues c.before.before.before.before.before), today-is c.before.before.before ∙ not-false _ c.if-not-sums_zero.false)
+    rw (← signs c.before.before.before.before, ← due_by (book c.before.before.before.before.before) (dues c.before.before.before.before.before), today-is c.before.before.before ∙ c.if-not-sums_zero.false)
     (c.sums_zero-2.ensures ∙ balanced_sums _ _ (later-sums c.before.before.before.before))

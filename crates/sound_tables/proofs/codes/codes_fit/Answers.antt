@@ -1,14 +1,10 @@
 -- `sound_tables::codes::codes_fit` meets its contract. The loop's invariant: the codes before `i` pass. Assumes nothing.
 use borrow.Author.Rules.{rules}
-use borrow.Author.Tests.{not-true, not-false}
 use native.Mathlib.Omega.{arith}
-use Prim.Native.Nat.{◌-◌, ◌≤◌}
-use mathlib.Core.Bool.{true}
 use mathlib.Core.Path.{◌≡◌, sym, ◌∙◌}
-use lib.ListN.{length, take}
+use lib.ListN.{length}
 use Rattle.laws.specs.Walks.{all_none, all_more, all_fails, all_done}
 use Rattle.rules.specs.Sound.{is_code}
-use Rattle.rules.specs.Words.{all}
 use Rattle.sound_tables.proofs.codes.codes_fit.Goals as goal
 use Rattle.sound_tables.proofs.codes.codes_fit.Tie as tie
 use Rattle.sound_tables.proofs.codes.codes_fit.Lts as lts
@@ -28,12 +24,12 @@ loop-i-init c = (omega arith, all_none is_code c.args.codes)
 pub returns-then-not-is_code : goal.returns-then-not-is_code
 returns-then-not-is_code c =
     let l = c.loop-i in
-    all_fails is_code c.args.codes l.i 0 (omega (arith, long c.before.before.before.before)) (sym c.is_code.ensures ∙ not-true _ c.if-not-is_code.true)
+    all_fails is_code c.args.codes l.i 0 (omega (arith, long c.before.before.before.before)) (sym c.is_code.ensures ∙ c.if-not-is_code.true)
 
 pub loop-i-preserved : goal.loop-i-preserved
 loop-i-preserved c =
     let l = c.loop-i in
-    (omega arith, all_more is_code c.args.codes l.i 0 (omega (arith, long c.before.before.before.before)) l.invariant.1 (sym c.is_code.ensures ∙ not-false _ c.if-not-is_code.false))
+    (omega arith, all_more is_code c.args.codes l.i 0 (omega (arith, long c.before.before.before.before)) l.invariant.1 (sym c.is_code.ensures ∙ c.if-not-is_code.false))
 
 pub returns : goal.returns
 returns c = let l = c.loop-i in all_done is_code _ l.i (omega (arith, long c.before.before)) l.invariant.1

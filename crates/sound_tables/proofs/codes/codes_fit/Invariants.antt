@@ -1,12 +1,8 @@
 -- `sound_tables::codes::codes_fit` meets its contract. The loop's invariant: the codes before `i` pass. Assumes nothing.
-use borrow.Author.Rules.{rules}
-use borrow.Author.Tests.{not-true, not-false}
-use native.Mathlib.Omega.{arith}
 use Prim.Native.Nat.{◌-◌, ◌≤◌}
 use mathlib.Core.Bool.{true}
-use mathlib.Core.Path.{◌≡◌, sym, ◌∙◌}
-use lib.ListN.{length, take}
-use Rattle.laws.specs.Walks.{all_none, all_more, all_fails, all_done}
+use mathlib.Core.Path.{◌≡◌}
+use lib.ListN.{take}
 use Rattle.rules.specs.Sound.{is_code}
 use Rattle.rules.specs.Words.{all}
 use Rattle.sound_tables.proofs.codes.codes_fit.Given as goal

@@ -1,5 +1,4 @@
 -- `sound_tables::faults::bad_security` meets its contract. Assumes nothing.
-use borrow.Author.Rules.{rules}
 use borrow.Author.Tests.{lt-ltb, le-ltb}
 use Rattle.rules.specs.Book.{unlisted, currency_of}
 use Rattle.rules.specs.Trades.{bad_security, no_security}

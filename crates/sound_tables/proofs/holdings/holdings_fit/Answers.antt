@@ -1,12 +1,7 @@
 -- `sound_tables::holdings::holdings_fit` meets its contract. The loop's invariant: the totals of the securities before `s` fit. Assumes nothing.
-use borrow.Author.Rules.{rules}
-use borrow.Author.Tests.{not-true, not-false}
 use mathlib.Core.Path.{◌≡◌, sym, ◌∙◌}
-use mathlib.Core.Bool.{true}
-use Prim.Native.Nat.{◌-◌, ◌≤◌}
 use native.Mathlib.Omega.{arith}
-use lib.ListN.{get_or, take}
-use Rattle.rules.specs.Words.{all}
+use lib.ListN.{get_or}
 use Rattle.rules.specs.Bounds.{every_security}
 use Rattle.rules.specs.Layout.{book_of}
 use Rattle.laws.specs.Walks.{all_none, all_more, all_fails, all_done}
@@ -36,14 +31,14 @@ loop-s-init c = (omega arith, all_none (total_fits (book_of c.args.b.now)) every
 pub returns-then-not-total_fits : goal.returns-then-not-total_fits
 returns-then-not-total_fits c =
     let bs = c.args.b.now in
-    all_fails (total_fits (book_of bs)) every_security c.loop-s.s 0 (omega (arith, securities_length)) (tested c.before.before ∙ not-true _ c.if-not-total_fits.true)
+    all_fails (total_fits (book_of bs)) every_security c.loop-s.s 0 (omega (arith, securities_length)) (tested c.before.before ∙ c.if-not-total_fits.true)
     ∙ held_fits_lem (book_of bs) (holdings_long bs) (codes_long bs)
 
 pub loop-s-preserved : goal.loop-s-preserved
 loop-s-preserved c =
     let bs = c.args.b.now in
     let l = c.loop-s in
-    (omega arith, all_more (total_fits (book_of bs)) every_security l.s 0 (omega (arith, securities_length)) l.invariant.1 (tested c.before.before ∙ not-false _ c.if-not-total_fits.false))
+    (omega arith, all_more (total_fits (book_of bs)) every_security l.s 0 (omega (arith, securities_length)) l.invariant.1 (tested c.before.before ∙ c.if-not-total_fits.false))
 
 pub returns : goal.returns
 returns c =

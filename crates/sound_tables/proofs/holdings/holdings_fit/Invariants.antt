@@ -1,18 +1,12 @@
 -- `sound_tables::holdings::holdings_fit` meets its contract. The loop's invariant: the totals of the securities before `s` fit. Assumes nothing.
-use borrow.Author.Rules.{rules}
-use borrow.Author.Tests.{not-true, not-false}
-use mathlib.Core.Path.{◌≡◌, sym, ◌∙◌}
+use mathlib.Core.Path.{◌≡◌}
 use mathlib.Core.Bool.{true}
 use Prim.Native.Nat.{◌-◌, ◌≤◌}
-use native.Mathlib.Omega.{arith}
-use lib.ListN.{get_or, take}
+use lib.ListN.{take}
 use Rattle.rules.specs.Words.{all}
 use Rattle.rules.specs.Bounds.{every_security}
 use Rattle.rules.specs.Layout.{book_of}
-use Rattle.laws.specs.Walks.{all_none, all_more, all_fails, all_done}
-use Rattle.book.specs.Views.{codes_long, holdings_long}
-use Rattle.laws.specs.All.{securities_length, security_at}
-use Rattle.sound_tables.specs.Held.{total_fits, held_fits_lem}
+use Rattle.sound_tables.specs.Held.{total_fits}
 use Rattle.sound_tables.proofs.holdings.holdings_fit.Given as goal
 
 abbrev pub invariant-loop-s : goal.invariant-loop-s

@@ -1,9 +1,8 @@
 -- `sound_tables::holdings::total_fits` meets its contract. The loop's invariant: what is left and the total make the most and what the accounts from `account` on hold.
 -- Assumes nothing.
-use borrow.Author.Rules.{rules}
 use borrow.Author.Tests.{le-leb, lt-leb}
 use mathlib.Core.Path.{◌≡◌, sym}
-use Prim.Native.Nat.{◌+◌, ◌-◌, ◌≤◌}
+use Prim.Native.Nat.{◌+◌}
 use native.Mathlib.Omega.{arith}
 use Rattle.rules.specs.Layout.{book_of}
 use Rattle.rules.specs.Sound.{total_held}

@@ -1,14 +1,10 @@
 -- `sound_tables::holdings::total_fits` meets its contract. The loop's invariant: what is left and the total make the most and what the accounts from `account` on hold.
 -- Assumes nothing.
-use borrow.Author.Rules.{rules}
-use borrow.Author.Tests.{le-leb, lt-leb}
-use mathlib.Core.Path.{◌≡◌, sym}
+use mathlib.Core.Path.{◌≡◌}
 use Prim.Native.Nat.{◌+◌, ◌-◌, ◌≤◌}
-use native.Mathlib.Omega.{arith}
 use Rattle.rules.specs.Layout.{book_of}
 use Rattle.rules.specs.Sound.{total_held}
-use Rattle.book.specs.Views.{holdings_long}
-use Rattle.sound_tables.specs.Held.{held_from, held_all, held_next, held_none}
+use Rattle.sound_tables.specs.Held.{held_from}
 use Rattle.sound_tables.proofs.holdings.total_fits.Given as goal
 
 abbrev pub invariant-loop-account : goal.invariant-loop-account

@@ -1,17 +1,14 @@
 -- `sound_tables::money::charges_fit` meets its contract. The loop's invariant: the charges from `i` on decide. Assumes nothing.
-use borrow.Author.Rules.{rules}
-use borrow.Author.Tests.{not-true, not-false}
 use mathlib.Core.Path.{◌≡◌, refl, sym, ap, ◌∙◌}
 use mathlib.Core.Bool.{Bool}
-use Prim.Native.Nat.{◌≤◌, ◌-◌}
 use native.Mathlib.Omega.{arith}
 use lib.IntN.{pos}
-use lib.ListN.{get_or, drop}
+use lib.ListN.{get_or}
 use Rattle.units.specs.Units.{mils}
 use Rattle.units.specs.declared.Mils.{Mils}
 use Rattle.rules.specs.Layout.{book_of}
 use Rattle.book.specs.Views.{charges_long}
-use Rattle.sound_tables.specs.Placed.{all_from, from_more, from_fails, from_done}
+use Rattle.sound_tables.specs.Placed.{from_more, from_fails, from_done}
 use Rattle.sound_tables.specs.Stakes.{stake_fits}
 use Rattle.sound_tables.proofs.money.charges_fit.Goals as goal
 use Rattle.sound_tables.proofs.money.charges_fit.Tie as tie
@@ -44,7 +41,7 @@ returns-then-not-stake_fits c =
     let a = c.args in
     let l = c.loop-i in
     from_fails (stake_fits a.sums) (book_of a.b.now).charges l.i (mils (pos 0)) (omega (arith, charges_long a.b.now)) l.invariant.1
-    (tested c.before.before ∙ not-true _ c.if-not-stake_fits.true)
+    (tested c.before.before ∙ c.if-not-stake_fits.true)
 
 pub loop-i-preserved : goal.loop-i-preserved
 loop-i-preserved c =
@@ -52,7 +49,7 @@ loop-i-preserved c =
     let l = c.loop-i in (
       omega arith,
       from_more (stake_fits a.sums) (book_of a.b.now).charges l.i (mils (pos 0)) (omega (arith, charges_long a.b.now)) l.invariant.1
-          (tested c.before.before ∙ not-false _ c.if-not-stake_fits.false),
+          (tested c.before.before ∙ c.if-not-stake_fits.false),
     )
 
 pub returns : goal.returns

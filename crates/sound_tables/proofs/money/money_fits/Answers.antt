@@ -1,5 +1,4 @@
 -- `sound_tables::money::money_fits` meets its contract. Assumes nothing.
-use borrow.Author.Rules.{rules}
 use mathlib.Core.Path.{◌∙◌}
 use Rattle.rules.specs.Layout.{book_of}
 use Rattle.book.specs.Views.{charges_long}

@@ -1,8 +1,7 @@
 -- `sound_tables::money::open_money` meets its contract. The loop's invariant: with the records from `i` on, the sums make the whole. Assumes nothing.
-use borrow.Author.Rules.{rules}
 use mathlib.Core.Path.{◌≡◌, sym, ap, ◌∙◌}
 use mathlib.Core.List.{List}
-use Prim.Native.Nat.{ℕ, ◌+◌, ◌*◌, ◌<◌, ◌≤◌, ◌-◌}
+use Prim.Native.Nat.{ℕ, ◌+◌, ◌*◌, ◌<◌, ◌≤◌}
 use native.Mathlib.Omega.{arith}
 use lib.ListN.{length, get_or}
 use lib.Seq.{get_or-take, length-take-le}
@@ -11,7 +10,7 @@ use Rattle.rules.specs.Book.{no_position, security_of, open_of, currency_of}
 use Rattle.rules.specs.Layout.{book_of}
 use Rattle.rules.specs.declared.Book.{Book}
 use Rattle.book.specs.Views.{codes_long, positions_long}
-use Rattle.sound_tables.specs.Placed.{as_amount, sum_at, Gathered, gathered_none, gathered_more, gathered_done}
+use Rattle.sound_tables.specs.Placed.{as_amount, sum_at, gathered_none, gathered_more, gathered_done}
 use Rattle.sound_tables.specs.Stakes.{MoneyAsks, place_of, place_at, size_of, currency_below, size_small, open_money_lem}
 use Rattle.sound_tables.proofs.money.open_money.Goals as goal
 use Rattle.sound_tables.proofs.money.open_money.Tie as tie

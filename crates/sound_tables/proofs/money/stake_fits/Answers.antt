@@ -1,5 +1,4 @@
 -- `sound_tables::money::stake_fits` meets its contract. Assumes nothing.
-use borrow.Author.Rules.{rules}
 use borrow.Author.Tests.{le-leb, lt-leb, leb-true, leb-false}
 use native.Mathlib.Omega.{arith}
 use Prim.Native.Nat.{◌+◌, ◌-◌}

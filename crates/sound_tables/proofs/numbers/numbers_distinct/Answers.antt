@@ -1,20 +1,17 @@
 -- `sound_tables::numbers::numbers_distinct` meets its contract. The loop's invariant: the numbers before `i` are distinct, and just their flags are up. Assumes nothing.
-use borrow.Author.Rules.{rules}
 use borrow.Author.Tests.{not-true, not-false}
 use mathlib.Core.Path.{◌≡◌, sym, ap, ◌∙◌}
-use mathlib.Core.Bool.{true}
-use mathlib.Core.List.{List, map}
-use Prim.Native.Nat.{ℕ, ◌<◌, ◌≤◌, ◌-◌}
+use mathlib.Core.List.{List}
+use Prim.Native.Nat.{ℕ, ◌<◌, ◌≤◌}
 use native.Mathlib.Omega.{arith}
-use lib.ListN.{length, get_or, take, length-map, get_or-map}
+use lib.ListN.{length, get_or, length-map, get_or-map}
 use lib.Seq.{get_or-take, length-take-le}
 use Rattle.rules.specs.Book.{no_trade, list_of}
 use Rattle.rules.specs.Layout.{book_of}
-use Rattle.rules.specs.Sound.{distinct}
 use Rattle.rules.specs.declared.Trade.{Trade}
 use Rattle.rules.specs.declared.Book.{Book}
 use Rattle.book.specs.Views.{trades_long}
-use Rattle.sound_tables.specs.Distinct.{Flagged, flagged_none, flagged_more, distinct_none, distinct_more, distinct_fails, distinct_done}
+use Rattle.sound_tables.specs.Distinct.{flagged_none, flagged_more, distinct_none, distinct_more, distinct_fails, distinct_done}
 use Rattle.sound_tables.proofs.numbers.numbers_distinct.Goals as goal
 use Rattle.sound_tables.proofs.numbers.numbers_distinct.Invariants.{numbers}
 use Rattle.sound_tables.proofs.numbers.numbers_distinct.Tie as tie
@@ -48,7 +45,7 @@ returns-then-not-first_use c =
     let bs = c.args.b.now in
     let l = c.loop-i in
     distinct_fails (numbers (book_of bs)) l.i _ (omega (arith, many bs c.requires.1)) (here c.before.before.before.before)
-    (sym (l.invariant.1.0.flag _ c.first_use.ensures.1.1) ∙ not-false _ (sym c.first_use.ensures.0 ∙ not-true _ c.if-not-first_use.true))
+    (sym (l.invariant.1.0.flag _ c.first_use.ensures.1.1) ∙ not-false _ (sym c.first_use.ensures.0 ∙ c.if-not-first_use.true))
 
 pub loop-i-smaller : goal.loop-i-smaller
 loop-i-smaller c = omega arith
@@ -64,7 +61,7 @@ loop-i-preserved c =
         rw c.first_use.ensures.1.0
             (flagged_more l.used (numbers (book_of bs)) l.i _ (omega (arith, many bs c.requires.1)) h b l.invariant.1.0),
         distinct_more (numbers (book_of bs)) l.i _ (omega (arith, many bs c.requires.1)) h l.invariant.1.1
-            (sym (l.invariant.1.0.flag _ b) ∙ not-true _ (sym c.first_use.ensures.0 ∙ not-false _ c.if-not-first_use.false)),
+            (sym (l.invariant.1.0.flag _ b) ∙ not-true _ (sym c.first_use.ensures.0 ∙ c.if-not-first_use.false)),
       ),
     )
 

@@ -1,20 +1,14 @@
 -- `sound_tables::numbers::numbers_distinct` meets its contract. The loop's invariant: the numbers before `i` are distinct, and just their flags are up. Assumes nothing.
-use borrow.Author.Rules.{rules}
-use borrow.Author.Tests.{not-true, not-false}
-use mathlib.Core.Path.{◌≡◌, sym, ap, ◌∙◌}
+use mathlib.Core.Path.{◌≡◌}
 use mathlib.Core.Bool.{true}
 use mathlib.Core.List.{List, map}
-use Prim.Native.Nat.{ℕ, ◌<◌, ◌≤◌, ◌-◌}
-use native.Mathlib.Omega.{arith}
-use lib.ListN.{length, get_or, take, length-map, get_or-map}
-use lib.Seq.{get_or-take, length-take-le}
-use Rattle.rules.specs.Book.{no_trade, list_of}
+use Prim.Native.Nat.{ℕ, ◌≤◌, ◌-◌}
+use lib.ListN.{take}
+use Rattle.rules.specs.Book.{list_of}
 use Rattle.rules.specs.Layout.{book_of}
 use Rattle.rules.specs.Sound.{distinct}
-use Rattle.rules.specs.declared.Trade.{Trade}
 use Rattle.rules.specs.declared.Book.{Book}
-use Rattle.book.specs.Views.{trades_long}
-use Rattle.sound_tables.specs.Distinct.{Flagged, flagged_none, flagged_more, distinct_none, distinct_more, distinct_fails, distinct_done}
+use Rattle.sound_tables.specs.Distinct.{Flagged}
 use Rattle.sound_tables.proofs.numbers.numbers_distinct.Given as goal
 
 abbrev pub numbers : Book → List ℕ

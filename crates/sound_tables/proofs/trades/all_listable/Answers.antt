@@ -1,12 +1,7 @@
 -- `sound_tables::trades::all_listable` meets its contract. The loop's invariant: the trades before `i` pass. Assumes nothing.
-use borrow.Author.Rules.{rules}
-use borrow.Author.Tests.{not-true, not-false}
 use mathlib.Core.Path.{◌≡◌, sym, ap, ◌∙◌}
-use mathlib.Core.Bool.{true}
-use Prim.Native.Nat.{◌≤◌, ◌-◌}
 use native.Mathlib.Omega.{arith}
-use lib.ListN.{get_or, take}
-use Rattle.rules.specs.Words.{all}
+use lib.ListN.{get_or}
 use Rattle.rules.specs.Book.{no_trade, list_of}
 use Rattle.rules.specs.Layout.{book_of}
 use Rattle.rules.specs.declared.Book.{Book}
@@ -43,14 +38,14 @@ unfolding list_of
 returns-then-not-is_listable c =
     let bs = c.args.b.now in
     let k = book_of bs in
-    take_fails (listable k) k.trades k.entries c.loop-i.i no_trade (omega (arith, trades_long bs)) (omega arith) (tested c.before.before ∙ not-true _ c.if-not-is_listable.true)
+    take_fails (listable k) k.trades k.entries c.loop-i.i no_trade (omega (arith, trades_long bs)) (omega arith) (tested c.before.before ∙ c.if-not-is_listable.true)
 
 pub loop-i-preserved : goal.loop-i-preserved
 loop-i-preserved c =
     let bs = c.args.b.now in
     let k = book_of bs in
     let l = c.loop-i in
-    (omega arith, all_more (listable k) k.trades l.i no_trade (omega (arith, trades_long bs)) l.invariant.1 (tested c.before.before ∙ not-false _ c.if-not-is_listable.false))
+    (omega arith, all_more (listable k) k.trades l.i no_trade (omega (arith, trades_long bs)) l.invariant.1 (tested c.before.before ∙ c.if-not-is_listable.false))
 
 pub returns : goal.returns
 unfolding list_of

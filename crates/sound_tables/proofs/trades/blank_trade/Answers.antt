@@ -1,5 +1,4 @@
 -- `sound_tables::trades::blank_trade` meets its contract. Assumes nothing.
-use borrow.Author.Rules.{rules}
 use borrow.Author.Tests.{eq-eqb, ne_eqb}
 use Rattle.sound_tables.proofs.trades.blank_trade.Goals as goal
 

@@ -1,5 +1,4 @@
 -- `sound_tables::trades::is_listable` meets its contract. Assumes nothing.
-use borrow.Author.Rules.{rules}
 use borrow.Author.Tests.{eq-eqb, ne_eqb}
 use mathlib.Core.Path.{sym, ◌∙◌}
 use Rattle.sound_tables.proofs.trades.is_listable.Goals as goal

@@ -1,17 +1,11 @@
 -- `sound_tables::trades::rest_blank` meets its contract. What is left to test decides. Assumes nothing.
-use borrow.Author.Rules.{rules}
-use borrow.Author.Tests.{not-true, not-false}
 use mathlib.Core.Path.{◌≡◌, refl, sym, ap, ◌∙◌}
-use mathlib.Core.Bool.{Bool, ◌&&◌}
-use Prim.Native.Nat.{ℕ, ◌≤◌, ◌-◌}
+use Prim.Native.Nat.{ℕ}
 use native.Mathlib.Omega.{arith}
-use lib.Dec.{eqb}
 use lib.ListN.{get_or, drop}
 use Rattle.rules.specs.Words.{all}
 use Rattle.rules.specs.Book.{no_trade}
 use Rattle.rules.specs.Layout.{book_of}
-use Rattle.rules.specs.Sound.{zero_fields}
-use Rattle.rules.specs.declared.Trade.{Trade}
 use Rattle.book.specs.Views.{trades_long}
 use Rattle.sound_positions.specs.Table.{drop_more, drop_fails, drop_done}
 use Rattle.sound_tables.proofs.trades.rest_blank.Goals as goal
@@ -43,7 +37,7 @@ pub returns-then-not-blank_trade : goal.returns-then-not-blank_trade
 returns-then-not-blank_trade c =
     let bs = c.args.b.now in
     let l = c.loop-row in
-    drop_fails fits (book_of bs).trades l.row no_trade (omega (arith, trades_long bs)) (tested c.before.before ∙ not-true _ c.if-not-blank_trade.true)
+    drop_fails fits (book_of bs).trades l.row no_trade (omega (arith, trades_long bs)) (tested c.before.before ∙ c.if-not-blank_trade.true)
     ∙ l.invariant.1 ∙ from_first c.before.before.before.before.before.before
 
 pub loop-row-preserved : goal.loop-row-preserved
@@ -51,7 +45,7 @@ loop-row-preserved c =
     let bs = c.args.b.now in
     let l = c.loop-row in (
       omega arith,
-      drop_more fits (book_of bs).trades l.row no_trade (omega (arith, trades_long bs)) (tested c.before.before ∙ not-false _ c.if-not-blank_trade.false)
+      drop_more fits (book_of bs).trades l.row no_trade (omega (arith, trades_long bs)) (tested c.before.before ∙ c.if-not-blank_trade.false)
           ∙ l.invariant.1,
     )
 

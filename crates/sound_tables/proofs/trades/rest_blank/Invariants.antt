@@ -1,19 +1,13 @@
 -- `sound_tables::trades::rest_blank` meets its contract. What is left to test decides. Assumes nothing.
-use borrow.Author.Rules.{rules}
-use borrow.Author.Tests.{not-true, not-false}
-use mathlib.Core.Path.{◌≡◌, refl, sym, ap, ◌∙◌}
+use mathlib.Core.Path.{◌≡◌}
 use mathlib.Core.Bool.{Bool, ◌&&◌}
-use Prim.Native.Nat.{ℕ, ◌≤◌, ◌-◌}
-use native.Mathlib.Omega.{arith}
+use Prim.Native.Nat.{◌≤◌, ◌-◌}
 use lib.Dec.{eqb}
-use lib.ListN.{get_or, drop}
+use lib.ListN.{drop}
 use Rattle.rules.specs.Words.{all}
-use Rattle.rules.specs.Book.{no_trade}
 use Rattle.rules.specs.Layout.{book_of}
 use Rattle.rules.specs.Sound.{zero_fields}
 use Rattle.rules.specs.declared.Trade.{Trade}
-use Rattle.book.specs.Views.{trades_long}
-use Rattle.sound_positions.specs.Table.{drop_more, drop_fails, drop_done}
 use Rattle.sound_tables.proofs.trades.rest_blank.Given as goal
 
 abbrev pub fits : Trade → Bool

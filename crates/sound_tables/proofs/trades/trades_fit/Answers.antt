@@ -1,6 +1,5 @@
 -- `sound_tables::trades::trades_fit` meets its contract. Assumes nothing.
-use borrow.Author.Rules.{rules}
-use borrow.Author.Tests.{le-leb, lt-leb, not-true, not-false}
+use borrow.Author.Tests.{le-leb, lt-leb}
 use mathlib.Core.Path.{◌≡◌, sym, ◌∙◌}
 use mathlib.Core.Bool.{true}
 use lib.Dec.{leb}
@@ -26,14 +25,14 @@ returns-then-entries_at-gt256 c = rw (← c.entries_at.ensures, lt-leb _ _ c.if-
 
 pub returns-then-not-numbers_distinct : goal.returns-then-not-numbers_distinct
 unfolding trades_fit
-returns-then-not-numbers_distinct c = rw (within c.before.before.before, sym c.numbers_distinct.ensures ∙ not-true _ c.if-not-numbers_distinct.true)
+returns-then-not-numbers_distinct c = rw (within c.before.before.before, sym c.numbers_distinct.ensures ∙ c.if-not-numbers_distinct.true)
 
 pub returns-then-not-all_listable : goal.returns-then-not-all_listable
 unfolding trades_fit
-returns-then-not-all_listable c = rw (within c.before.before.before.before.before, sym c.numbers_distinct.ensures ∙ not-false _ c.if-not-numbers_distinct.false, sym c.all_listable.ensures ∙ not-true _ c.if-not-all_listable.true)
+returns-then-not-all_listable c = rw (within c.before.before.before.before.before, sym c.numbers_distinct.ensures ∙ c.if-not-numbers_distinct.false, sym c.all_listable.ensures ∙ c.if-not-all_listable.true)
 
 pub returns : goal.returns
 unfolding trades_fit
 returns c =
-    rw (within c.before.before.before.before.before.before, sym c.numbers_distinct.ensures ∙ not-false _ c.if-not-numbers_distinct.false, sym c.all_listable.ensures ∙ not-false _ c.if-not-all_listable.false)
+    rw (within c.before.before.before.before.before.before, sym c.numbers_distinct.ensures ∙ c.if-not-numbers_distinct.false, sym c.all_listable.ensures ∙ c.if-not-all_listable.false)
     c.rest_blank.ensures

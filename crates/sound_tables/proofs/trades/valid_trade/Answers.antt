@@ -1,5 +1,4 @@
 -- `sound_tables::trades::valid_trade` meets its contract. A return is at the first fault. Assumes nothing.
-use borrow.Author.Rules.{rules}
 use mathlib.Core.Bool.{not}
 use mathlib.Core.Path.{sym, ap, ◌∙◌}
 use Rattle.rules.specs.Sound.{valid_trade}

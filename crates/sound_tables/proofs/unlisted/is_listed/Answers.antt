@@ -1,5 +1,4 @@
 -- `sound_tables::unlisted::is_listed` meets its contract. Assumes nothing.
-use borrow.Author.Rules.{rules}
 use Rattle.rules.specs.Book.{unlisted, currency_of}
 use Rattle.sound_tables.proofs.unlisted.is_listed.Goals as goal
 

@@ -1,15 +1,9 @@
 -- `sound_tables::unlisted::records_listed` meets its contract. The loop's invariant: the records before `i` pass. Assumes nothing.
-use borrow.Author.Rules.{rules}
-use borrow.Author.Tests.{not-true, not-false}
 use mathlib.Core.Path.{◌≡◌, sym, ap, ◌∙◌}
-use mathlib.Core.Bool.{Bool, true, not}
-use Prim.Native.Nat.{◌≤◌, ◌-◌}
 use native.Mathlib.Omega.{arith}
-use lib.ListN.{get_or, take}
-use Rattle.rules.specs.Words.{all}
-use Rattle.rules.specs.Book.{no_position, security_of, open_of, unlisted}
+use lib.ListN.{get_or}
+use Rattle.rules.specs.Book.{no_position, open_of}
 use Rattle.rules.specs.Layout.{book_of}
-use Rattle.rules.specs.declared.Position.{Position}
 use Rattle.rules.specs.declared.Book.{Book}
 use Rattle.laws.specs.Walks.{all_none, all_more}
 use Rattle.book.specs.Views.{positions_long}
@@ -42,14 +36,14 @@ unfolding open_of
 returns-then-not-is_listed c =
     let bs = c.args.b.now in
     let k = book_of bs in
-    take_fails (fits k) k.positions k.records c.loop-i.i no_position (omega (arith, positions_long bs)) (omega arith) (tested c.before.before ∙ not-true _ c.if-not-is_listed.true)
+    take_fails (fits k) k.positions k.records c.loop-i.i no_position (omega (arith, positions_long bs)) (omega arith) (tested c.before.before ∙ c.if-not-is_listed.true)
 
 pub loop-i-preserved : goal.loop-i-preserved
 loop-i-preserved c =
     let bs = c.args.b.now in
     let k = book_of bs in
     let l = c.loop-i in
-    (omega arith, all_more (fits k) k.positions l.i no_position (omega (arith, positions_long bs)) l.invariant.1 (tested c.before.before ∙ not-false _ c.if-not-is_listed.false))
+    (omega arith, all_more (fits k) k.positions l.i no_position (omega (arith, positions_long bs)) l.invariant.1 (tested c.before.before ∙ c.if-not-is_listed.false))
 
 pub returns : goal.returns
 unfolding open_of

@@ -1,19 +1,13 @@
 -- `sound_tables::unlisted::records_listed` meets its contract. The loop's invariant: the records before `i` pass. Assumes nothing.
-use borrow.Author.Rules.{rules}
-use borrow.Author.Tests.{not-true, not-false}
-use mathlib.Core.Path.{◌≡◌, sym, ap, ◌∙◌}
+use mathlib.Core.Path.{◌≡◌}
 use mathlib.Core.Bool.{Bool, true, not}
 use Prim.Native.Nat.{◌≤◌, ◌-◌}
-use native.Mathlib.Omega.{arith}
-use lib.ListN.{get_or, take}
+use lib.ListN.{take}
 use Rattle.rules.specs.Words.{all}
-use Rattle.rules.specs.Book.{no_position, security_of, open_of, unlisted}
+use Rattle.rules.specs.Book.{security_of, unlisted}
 use Rattle.rules.specs.Layout.{book_of}
 use Rattle.rules.specs.declared.Position.{Position}
 use Rattle.rules.specs.declared.Book.{Book}
-use Rattle.laws.specs.Walks.{all_none, all_more}
-use Rattle.book.specs.Views.{positions_long}
-use Rattle.sound_positions.specs.Table.{take_fails, take_done}
 use Rattle.sound_tables.proofs.unlisted.records_listed.Given as goal
 
 abbrev pub fits : Book → Position → Bool

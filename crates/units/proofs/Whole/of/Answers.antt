@@ -1,5 +1,4 @@
 -- `units::Whole::of` meets its contract. Assumes nothing.
-use borrow.Author.Rules.{rules}
 use Rattle.units.proofs.Raw.{fit_neg, zero_less, nat_abs_zero_less}
 use lib.IntN.{pos}
 use mir.Syntax.{w64}

@@ -7,7 +7,6 @@ use mir.Syntax.{w64}
 use mir.Val.{SFits}
 use Rattle.units.proofs.Raw.{difference_fits, difference_is, size_below, size_above, back}
 use Rattle.units.proofs.Whole.size.Goals as goal
-use Rattle.units.proofs.Whole.size.Tie as tie
 use Rattle.units.proofs.Whole.size.Lts as lts
 use Rattle.units.proofs.Whole.size.Reads as reads
 

@@ -1,5 +1,4 @@
 -- `units::Whole::times` meets its contract. Assumes nothing.
-use borrow.Author.Rules.{rules}
 use mir.Syntax.{w64}
 use mir.Facts.{to_z-of_z, to_z_pos}
 use native.Mathlib.Omega.{arith}

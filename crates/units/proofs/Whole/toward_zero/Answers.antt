@@ -1,5 +1,4 @@
 -- `units::Whole::toward_zero` meets its contract. Assumes nothing.
-use borrow.Author.Rules.{rules}
 use native.Mathlib.Omega.{arith}
 use Rattle.units.proofs.Whole.toward_zero.Goals as goal
 

@@ -1,11 +1,10 @@
 -- `units_rounded::parts::part` meets its contract. Assumes nothing.
-use borrow.Author.Rules.{rules}
 use native.Mathlib.Omega.{arith}
 use Prim.Native.Nat.{◌*◌, ◌/◌}
 use mathlib.Core.Path.{◌≡◌}
 use lib.IntN.{nat_abs}
 use Rattle.units.specs.Units.{shares_of, mils_of}
-use Rattle.units_rounded.specs.PartLaws.{part_signed}
+use Rattle.units_rounded.proofs.PartLaws.{part_signed}
 use Rattle.units_rounded.proofs.parts.part.Goals as goal
 use Rattle.units_rounded.proofs.parts.part.Tie as tie
 use Rattle.units_rounded.proofs.parts.part.Lts as lts

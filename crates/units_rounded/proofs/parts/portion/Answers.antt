@@ -1,7 +1,6 @@
 -- `units_rounded::parts::portion` meets its contract: the two products are small enough, and the sum is the quotient (`portion_is`). Assumes nothing.
-use borrow.Author.Rules.{rules}
 use native.Mathlib.Omega.{arith}
-use Rattle.units_rounded.specs.PartLaws.{quotient_le, rest_le, portion_le, portion_is}
+use Rattle.units_rounded.proofs.PartLaws.{quotient_le, rest_le, portion_le, portion_is}
 use Rattle.units_rounded.proofs.parts.portion.Goals as goal
 
 pub overflow_mul-a : goal.overflow_mul-a

@@ -1,0 +1,2 @@
+-- What the proofs of the test for soundness share.
+pub mod Clauses
