@@ -16,12 +16,12 @@ missing, cited = [], set()
 
 
 def declares(crate, module, name):
-    path = ROOT / "crates" / crate / "specs" / f"{module}.antt"
-    return path.exists() and (name is None or re.search(DECLARED.format(re.escape(name)), path.read_text(), re.M))
+    paths = [ROOT / "crates" / crate / part / f"{module}.antt" for part in ("specs", "proofs")]
+    return any(path.exists() and (name is None or re.search(DECLARED.format(re.escape(name)), path.read_text(), re.M)) for path in paths)
 
 
 def is_file(token):
-    places = ("", "crates/", "docs/", "tests/", "crates/*/src/", "crates/*/specs/")
+    places = ("", "crates/", "docs/", "tests/", "crates/*/src/", "crates/*/specs/", "crates/*/proofs/")
     return any(list(ROOT.glob(at + token + end)) for at in places for end in ("", ".antt"))
 
 
