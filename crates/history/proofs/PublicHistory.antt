@@ -1,5 +1,5 @@
 -- Histories of all public calls are histories of the seven: each public call leaves the bytes that its deed leaves, whatever the bytes before it.
-use Rattle.std.specs.Prelude.{◌≡◌, refl, true, false, ◌||◌, List, [], ◌∷◌, ◌++◌, ℕ, eqb}
+use Rattle.std.specs.Prelude.{◌≡◌, refl, false, ◌||◌, List, [], ◌∷◌, ◌++◌, ℕ, eqb}
 use Rattle.std.proofs.Common.{sym, ap, subst, ◌∙◌, eqb-true}
 use Rattle.std.proofs.Math.Option.{Option, some, none}
 use Rattle.rules.specs.Book.{empty_book}

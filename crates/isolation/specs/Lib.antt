@@ -1,4 +1,4 @@
--- Which calls leave an account's records, and so what marks answer for it. To be read: Touching (the words) and Statements; nothing else must be.
+-- Which calls leave an account's records, and so what marks answer for it. To be read: Touching here (the words) and proofs/Statements; nothing else must be.
 pub mod Touching
 -- calls on the list and the holdings, and refused ones
 pub mod Untouched
@@ -14,5 +14,3 @@ pub mod RollApart
 pub mod QuietRoll
 -- over lent bytes
 pub mod Stored
--- the statements
-pub mod Statements

@@ -1,6 +1,6 @@
 -- How clauses of a sound book are shown: balance by sums, one sign by records that do not face each other, money at stake account by
 -- account; and that the records of a sound book have currencies.
-use Rattle.std.specs.Prelude.{◌≡◌, Bool, true, not, ◌&&◌, List, ℕ, zero, ◌+◌, ◌<◌, ◌≤◌, eqb, length, get_or, ℤ, pos, nat_abs, ◌+ℤ◌}
+use Rattle.std.specs.Prelude.{◌≡◌, Bool, true, not, ◌&&◌, List, ℕ, ◌+◌, ◌<◌, ◌≤◌, eqb, length, get_or, ℤ, pos, nat_abs, ◌+ℤ◌}
 use Rattle.std.proofs.Common.{sym, ap, ◌∙◌, arith, lt-ltb}
 use Rattle.std.proofs.lemmas.Bool.{not-true}
 use Rattle.integers.specs.Sums.{sum_by}

@@ -5,7 +5,7 @@ use Rattle.std.proofs.Common.{◌∙◌, arith}
 use Rattle.std.proofs.Math.ListN.{length}
 use Rattle.rules.specs.Book.{empty_book}
 use Rattle.rules.specs.Records.{Record, create, call, unreadable, front_of, record_at, other_version, in_place, length_of}
-use Rattle.rules.specs.CallFile.{Played, is_unreadable, left, file_of, Placed, records_from, records_in, before, contents, nineteen}
+use Rattle.rules.specs.CallFile.{Played, is_unreadable, file_of, Placed, records_from, records_in, before, contents, nineteen}
 use Rattle.laws.specs.Cases.{true_false, cond_yes, cond_no, by_test}
 use Rattle.callfile_format.specs.Walking.{next_of, records_at}
 use Rattle.playing_records.specs.Steps.{next_in, left_at, number_left, number_more, number_end, is_create, never}

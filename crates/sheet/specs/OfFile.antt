@@ -19,7 +19,7 @@ use Rattle.laws.specs.Cases.{true_false, cond_yes, cond_no}
 use Rattle.sheet_laws.specs.AnswersFew.{file_few}
 use Rattle.sheet_laws.specs.AnswersFit.{file_fits}
 use Rattle.sheet_laws.specs.BookLeft.{is_there}
-use Rattle.sheet_laws.specs.Bounded.{sheet_bytes_lem}
+use Rattle.sheet_laws.proofs.Bounded.{sheet_bytes_lem}
 use Rattle.sheet.specs.Answers.{code, length-code, answersIn, placeFits, places-fit, answers-back}
 use Rattle.sheet.specs.Whole.{book_if, lines_above, sheet_lines, sheet_text, Printable}
 

@@ -1,4 +1,4 @@
--- Theorems about every call file: what its answers and its sheet fit into. To be read: Bounded; nothing else must be.
+-- Theorems about every call file: what its answers and its sheet fit into. To be read: Bounded, here and in proofs/; nothing else must be.
 -- the answers are few, and fit; the book that the file leaves is sound, and its values fit
 pub mod AnswersFew
 pub mod AnswersFit

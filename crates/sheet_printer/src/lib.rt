@@ -1,13 +1,19 @@
 // The sheet program's work (document 01, "Call file and sheet"): a call file on standard input, its sheet on standard output,
 // and how that ended. A file that could not be read whole has no sheet.
-mod input;
+#![tactic(auto)]
 
-ghost use Rattle.std.specs.Prelude.{◌≡◌, cond, [], ◌≤◌, length};
+mod input;
+mod output;
+
+ghost use Rattle.std.specs.Prelude.{◌≡◌, ◌⊎◌, cond, true, pos, [], ◌≤◌, length, take, IfSome};
+ghost use Rattle.std.specs.Io.KnownBytes.{Appends};
 ghost use Rattle.rules.specs.Sheet.{sheet_of};
 ghost use Rattle.sheet_laws.specs.Bounded.{most_bytes};
+ghost use Rattle.sheet_printer.specs.Printed.{IsFrontWritten, IsPrinted};
 
 use input::read_whole;
-use libc::{STDERR_FILENO, STDOUT_FILENO};
+use output::write_whole;
+use std::io::{Read, Stderr, Stdin, Stdout, Write};
 
 // What is to be printed: the sheet of what was read, and nothing where a read failed.
 fn printed<'a>(failed: bool, file: &[u8], buffer: &'a mut [u8]) -> &'a mut [u8]
@@ -21,34 +27,44 @@ fn printed<'a>(failed: bool, file: &[u8], buffer: &'a mut [u8]) -> &'a mut [u8]
 }
 
 // No sheet is longer than the buffer (sheet_laws/specs/Bounded), so that every sheet is printed.
-fn print_sheet(failed: bool, file: &[u8]) -> bool {
+fn print_sheet<W: Write>(output: &mut W, failed: bool, file: &[u8]) -> bool
+    ensures whole { result ≡ true → Appends (W.contents output.old) (W.contents output.new) (cond failed [] (sheet_of file.now)) }
+    ensures front { IsFrontWritten (W.contents output.old) (W.contents output.new) (cond failed [] (sheet_of file.now)) }
+{
     let mut buffer = [0u8; 295620];
     let sheet = printed(failed, file, &mut buffer);
-    io::write_all(STDOUT_FILENO, sheet)
+    write_whole(output, sheet)
 }
 
 // 0, or 1 where the input could not be read (then nothing is printed) or the sheet could not be written; both say so on
 // standard error. A file past 65,535 bytes is refused, so that one byte more than these is all that needs to be read.
-#[unsafe(no_mangle)]
-pub extern "C" fn wick_print_sheet() -> i32 {
+fn print<I: Read, O: Write, E: Write>(stdin: &mut I, stdout: &mut O, stderr: &mut E) -> i32
+    ensures status { (result ≡ pos 0) ⊎ (result ≡ pos 1) }
+    ensures whole { result ≡ pos 0 → IfSome (I.remaining stdin.old) (λ xs. Appends (O.contents stdout.old) (O.contents stdout.new) (sheet_of (take 65_536 xs))) }
+    ensures front { IsPrinted (I.remaining stdin.old) (I.remaining stdin.new) (O.contents stdout.old) (O.contents stdout.new) }
+{
     let mut file = [0u8; 65536];
-    let read = read_whole(&mut file);
+    let read = read_whole(stdin, &mut file);
     let n = read.size;
     let got = &file[..];
-    let written = print_sheet(read.failed, &got[..n]);
+    let written = print_sheet(stdout, read.failed, &got[..n]);
     if read.failed {
-        io::write_all(
-            STDERR_FILENO,
-            b"sheet: standard input cannot be read, no sheet\n",
-        );
+        write_whole(stderr, b"sheet: standard input cannot be read, no sheet\n");
         return 1;
     }
     if !written {
-        io::write_all(
-            STDERR_FILENO,
+        write_whole(
+            stderr,
             b"sheet: standard output cannot be written, the sheet is cut\n",
         );
         return 1;
     }
     0
+}
+
+// The same from standard input to standard output: the status.
+pub fn wick_print_sheet(mut stdin: Stdin, mut stdout: Stdout, mut stderr: Stderr) -> i32
+    ensures { (result ≡ pos 0) ⊎ (result ≡ pos 1) }
+{
+    print(&mut stdin, &mut stdout, &mut stderr)
 }

@@ -1,5 +1,4 @@
 -- `sheets::refused_sheet` meets its contract: the sheet of a refused file fits, or it does not. Assumes nothing.
-use borrow.Author.Rules.{rules}
 use mathlib.Core.Path.{refl}
 use native.Mathlib.Omega.{arith}
 use Rattle.rules.specs.Words.{each}
@@ -15,5 +14,5 @@ put_refused-size-requires c = omega (arith, c.if-buffer-refused_width.false, c.r
 
 pub returns : goal.returns
 returns c =
-    let put = c.Put-refused.ensures in
+    let put = c.put_refused-size.ensures in
     print_wide (each text_of refused_sheet) _ _ _ (omega (arith, c.if-buffer-refused_width.false, c.refused_width.ensures)) refl put.0 _ put.1

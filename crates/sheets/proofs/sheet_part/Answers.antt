@@ -1,5 +1,4 @@
 -- `sheets::sheet_part` meets its contract: the part is the sheet that `sheet_of` has put there. Assumes nothing.
-use borrow.Author.Rules.{rules}
 use mathlib.Core.Path.{refl, sym}
 use lib.Seq.{length-take-le}
 use Rattle.sheets.specs.Sheets.{part_is, part_within}

@@ -1,5 +1,4 @@
 -- `sheets::store_if` meets its contract: the book is written, or left as it was. Assumes nothing.
-use borrow.Author.Rules.{rules}
 use mathlib.Core.Path.{sym, ◌∙◌}
 use Rattle.laws.specs.Cases.{cond_yes, cond_no}
 use Rattle.sheets.proofs.store_if.Goals as goal

@@ -1,5 +1,4 @@
 -- `calls::entries::exclude` meets its contract: a refusal, acceptance. Assumes nothing.
-use borrow.Author.Rules.{rules}
 use mathlib.Core.Path.{sym, ◌∙◌}
 use Rattle.laws.specs.SoundBytes.{long, is_sound, refused, accepted}
 use Rattle.calls.specs.Entries.{few_entries, list_fits}

@@ -1,28 +1,15 @@
 -- `calls::holdings::withdrawal_refusal` meets its contract: the shared tests, then what the account holds. Assumes nothing.
-use borrow.Author.Rules.{rules}
-use mathlib.Core.Path.{◌≡◌, sym, ◌∙◌}
+use mathlib.Core.Path.{sym, ◌∙◌}
 use native.Mathlib.Omega.{arith}
 use Rattle.rules.specs.Book.{holding_at, held_by}
-use Rattle.rules.specs.Layout.{book_of}
-use Rattle.calls.specs.Holdings.{common_refusal, common_passed, withdrawal_stops, withdrawal_over, withdrawal_fine}
+use Rattle.calls.specs.Holdings.{common_passed, withdrawal_stops, withdrawal_over, withdrawal_fine}
 use Rattle.calls.proofs.holdings.withdrawal_refusal.Goals as goal
-use Rattle.calls.proofs.holdings.withdrawal_refusal.Tie as tie
-use Rattle.calls.proofs.holdings.withdrawal_refusal.Lts as lts
-use Rattle.calls.proofs.holdings.withdrawal_refusal.Reads as reads
-
--- ── what is known at a place of the code, to say a fact once for several goals ──
-
-abbrev Else1 : Type 0
-Else1 = lts.Else1 tie.the-claims reads.Pre reads.Post
-
-zero : (c : Else1) → common_refusal (book_of c.args.b.now) c.args.account c.args.security c.args.quantity ≡ 0
-zero c = sym c.common_refusal-common.ensures ∙ c.if-common-ne0.false
 
 pub returns-then-common-ne0 : goal.returns-then-common-ne0
 returns-then-common-ne0 c = withdrawal_stops _ _ _ _ _ c.common_refusal-common.ensures c.if-common-ne0.true
 
 pub holding_at-held-requires : goal.holding_at-held-requires
-holding_at-held-requires c = let p = common_passed _ _ _ _ (zero c.before) in (c.requires, omega arith)
+holding_at-held-requires c = let p = common_passed _ _ _ _ (sym c.common_refusal-common.ensures ∙ c.if-common-ne0.false) in (c.requires, omega arith)
 
 pub returns-then-quantity-held : goal.returns-then-quantity-held
 unfolding held_by holding_at

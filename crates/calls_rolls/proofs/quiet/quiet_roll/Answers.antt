@@ -1,57 +1,33 @@
 -- `calls_rolls::quiet::quiet_roll` meets its contract: refusal 14, acceptance. Assumes nothing.
-use borrow.Author.Rules.{rules}
 use mathlib.Core.Path.{ap, sym, ◌∙◌}
 use native.Mathlib.Omega.{arith}
-use Prim.Native.Nat.{ℕ, ◌+◌, ◌≤◌}
-use Rattle.rules.specs.Bounds.{most_records, last_day}
+use Prim.Native.Nat.{ℕ, ◌+◌}
 use Rattle.rules.specs.Layout.{book_of, bytes_of}
-use Rattle.rules.specs.Roll.{open_plus_nets}
 use Rattle.rules.specs.Calls.{roll}
 use Rattle.laws.specs.SoundParts.{day_small}
 use Rattle.laws.specs.SoundBytes.{shaped, long, is_sound, refused, accepted}
 use Rattle.calls_rolls.specs.Rolls.{last_day_lem, may}
 use Rattle.calls_rolls.specs.Quiet.{few, rolled_quietly, written}
 use Rattle.calls_rolls.proofs.quiet.quiet_roll.Goals as goal
-use Rattle.calls_rolls.proofs.quiet.quiet_roll.Tie as tie
-use Rattle.calls_rolls.proofs.quiet.quiet_roll.Lts as lts
-use Rattle.calls_rolls.proofs.quiet.quiet_roll.Reads as reads
-
--- ── what is known at a place of the code, to say a fact once for several goals ──
-
-abbrev After-day_at : Type 0
-After-day_at = lts.After-day_at tie.the-claims reads.Pre reads.Post
-
-abbrev Start : Type 0
-Start = lts.Start tie.the-claims reads.Pre reads.Post
-
--- ── the book that was lent ──
-
-in_table : (s : Start) → open_plus_nets (book_of s.args.b.now) ≤ most_records
-in_table s = few _ (is_sound _ s.requires.0) (shaped _) s.requires.1
-
-in-days : (c : After-day_at) → c.day_at-day.result ≤ last_day
-in-days c = omega (arith, c.day_at-day.ensures, day_small _ (is_sound _ c.requires.0))
-
--- ── the needs ──
 
 pub day_at-day-requires : goal.day_at-day-requires
 day_at-day-requires c = long _ c.requires.0
 
 pub returns-then-day : goal.returns-then-day
-returns-then-day c = refused c.args.b.now c.requires.0 roll 14 (last_day_lem _ (in_table c.before.before.before) (sym c.day_at-day.ensures ∙ c.if-day.true)) (λ z. omega arith)
+returns-then-day c = refused c.args.b.now c.requires.0 roll 14 (last_day_lem _ (few _ (is_sound _ c.requires.0) (shaped _) c.requires.1) (sym c.day_at-day.ensures ∙ c.if-day.true)) (λ z. omega arith)
 
 pub overflow_add-day : goal.overflow_add-day
-overflow_add-day c = omega (arith, in-days c.before.before)
+overflow_add-day c = omega (arith, c.day_at-day.ensures, day_small _ (is_sound _ c.requires.0))
 
 pub put_day-requires : goal.put_day-requires
 put_day-requires c = long _ c.requires.0
 
 pub clear_charges-requires : goal.clear_charges-requires
-clear_charges-requires c = omega (arith, put-day-requires c.before.before.before.before κs, c.put_day.auto.0)
+clear_charges-requires c = omega (arith, long _ c.requires.0, c.put_day.auto.b)
 
 pub returns : goal.returns
 returns c =
     let bs = c.args.b.now in
-    accepted bs c.requires.0 roll _ (may _ (in_table c.before.before.before.before.before.before.before.before.before.before.before.before) (λ z. c.if-day.false (c.day_at-day.ensures ∙ z)))
+    accepted bs c.requires.0 roll _ (may _ (few _ (is_sound _ c.requires.0) (shaped _) c.requires.1) (λ z. c.if-day.false (c.day_at-day.ensures ∙ z)))
     (written bs _ _ _ (ap (λ (n : ℕ). n + 1) c.day_at-day.ensures) c.put_day.ensures.1 c.clear_charges.ensures.0
     ∙ ap bytes_of (rolled_quietly (book_of bs) (is_sound bs c.requires.0) (shaped bs) c.requires.1))

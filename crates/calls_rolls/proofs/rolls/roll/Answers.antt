@@ -1,5 +1,4 @@
 -- `calls_rolls::rolls::roll` meets its contract: both ways have it. Assumes nothing.
-use borrow.Author.Rules.{rules}
 use mathlib.Core.Path.{sym, ◌∙◌}
 use Rattle.calls_rolls.proofs.rolls.roll.Goals as goal
 

@@ -1,12 +1,7 @@
 -- `marking_prices::prices::entry_above` meets its contract. The entries before s are none of them too high. Assumes nothing.
-use borrow.Author.Rules.{rules}
-use mathlib.Core.Path.{◌≡◌, ap, ◌∙◌}
-use mathlib.Core.Bool.{false}
-use Prim.Native.Nat.{◌-◌, ◌≤◌}
+use mathlib.Core.Path.{ap, ◌∙◌}
 use native.Mathlib.Omega.{arith}
-use lib.ListN.{take}
 use borrow.Author.Tests.{lt-ltb, le-ltb}
-use Rattle.rules.specs.Words.{any}
 use Rattle.rules.specs.Bounds.{every_security}
 use Rattle.rules.specs.Prices.{entry_above}
 use Rattle.laws.specs.All.{securities_length, security_at}
@@ -26,8 +21,7 @@ returns-then-entry-gt9999999 c =
 
 pub loop-s-preserved : goal.loop-s-preserved
 loop-s-preserved c =
-    let l = c.loop-s in
-    (
+    let l = c.loop-s in (
       omega arith,
       any_more (high_at c.args.table.now) every_security l.s 0 (omega (arith, securities_length)) l.invariant.1
           (ap (high_at c.args.table.now) (security_at l.s (omega arith)) ∙ le-ltb _ _ (rw c.entry.ensures at c.if-entry-gt9999999.false)),

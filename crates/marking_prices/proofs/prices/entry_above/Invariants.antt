@@ -1,16 +1,10 @@
 -- `marking_prices::prices::entry_above` meets its contract. The entries before s are none of them too high. Assumes nothing.
-use borrow.Author.Rules.{rules}
-use mathlib.Core.Path.{◌≡◌, ap, ◌∙◌}
+use mathlib.Core.Path.{◌≡◌}
 use mathlib.Core.Bool.{false}
 use Prim.Native.Nat.{◌-◌, ◌≤◌}
-use native.Mathlib.Omega.{arith}
 use lib.ListN.{take}
-use borrow.Author.Tests.{lt-ltb, le-ltb}
 use Rattle.rules.specs.Words.{any}
 use Rattle.rules.specs.Bounds.{every_security}
-use Rattle.rules.specs.Prices.{entry_above}
-use Rattle.laws.specs.All.{securities_length, security_at}
-use Rattle.laws.specs.Finding.{any_none, any_more, any_found, any_done}
 use Rattle.marking_prices.specs.Pricing.{high_at}
 use Rattle.marking_prices.proofs.prices.entry_above.Given as goal
 

@@ -1,35 +1,22 @@
 -- `marking_prices::prices::price` meets its contract. Assumes nothing.
-use borrow.Author.Rules.{rules}
 use mathlib.Core.Path.{◌≡◌, sym, ◌∙◌}
 use native.Mathlib.Omega.{arith}
 use Rattle.rules.specs.Prices.{entry_of, price_answer}
 use Rattle.marking_prices.specs.Pricing.{Asked, asked, part_none, part_intraday, part_closing, spot_none, spot_intraday, spot_closing}
 use Rattle.marking_prices.proofs.prices.price.Goals as goal
-use Rattle.marking_prices.proofs.prices.price.Tie as tie
-use Rattle.marking_prices.proofs.prices.price.Lts as lts
-use Rattle.marking_prices.proofs.prices.price.Reads as reads
-
--- ── what is known at a place of the code, to say a fact once for several goals ──
-
-abbrev Else1 : Type 0
-Else1 = lts.Else1 tie.the-claims reads.Pre reads.Post
-
--- past the refusal, the question is of two whole tables and a security
-fine : (c : Else1) → Asked c.args.intraday.now c.args.closing.now c.args.security
-fine c = asked _ _ _ (sym c.price_refusal-fault.ensures ∙ c.if-fault-ne0.false)
 
 pub returns-then-fault-ne0 : goal.returns-then-fault-ne0
 returns-then-fault-ne0 c =
     let a = c.args in
     let e = c.price_refusal-fault.ensures in
     let fault : price_answer a.intraday.now a.closing.now a.security ≡ 0 → ⊥ = λ z. c.if-fault-ne0.true (e ∙ z) in
-    (part_none _ _ _ fault, e, spot_none _ _ _ a.intraday.ptr a.closing.ptr fault)
+    (part_none _ _ _ fault, e, spot_none _ _ _ a.intraday.ref_ptr a.closing.ref_ptr fault)
 
 pub entry-requires : goal.entry-requires
-entry-requires c = omega (arith, fine c.before)
+entry-requires c = let a : Asked c.args.intraday.now c.args.closing.now c.args.security = asked _ _ _ (sym c.price_refusal-fault.ensures ∙ c.if-fault-ne0.false) in omega arith
 
 pub slice_bounds-result-end-then-entry-ne0 : goal.slice_bounds-result-end-then-entry-ne0
-slice_bounds-result-end-then-entry-ne0 c = omega (arith, fine c.before.before.before)
+slice_bounds-result-end-then-entry-ne0 c = let a : Asked c.args.intraday.now c.args.closing.now c.args.security = asked _ _ _ (sym c.price_refusal-fault.ensures ∙ c.if-fault-ne0.false) in omega arith
 
 pub returns-then-entry-ne0 : goal.returns-then-entry-ne0
 returns-then-entry-ne0 c =
@@ -37,10 +24,10 @@ returns-then-entry-ne0 c =
     let e = c.price_refusal-fault.ensures in
     let some : entry_of a.intraday.now a.security ≡ 0 → ⊥ = λ w. c.if-entry-ne0.true (c.entry.ensures ∙ w) in
     let fine = sym e ∙ c.if-fault-ne0.false in
-    (part_intraday _ _ _ fine some, e, spot_intraday _ _ _ a.intraday.ptr a.closing.ptr fine some)
+    (part_intraday _ _ _ fine some, e, spot_intraday _ _ _ a.intraday.ref_ptr a.closing.ref_ptr fine some)
 
 pub slice_bounds-result-end-2 : goal.slice_bounds-result-end-2
-slice_bounds-result-end-2 c = omega (arith, fine c.before.before.before)
+slice_bounds-result-end-2 c = let a : Asked c.args.intraday.now c.args.closing.now c.args.security = asked _ _ _ (sym c.price_refusal-fault.ensures ∙ c.if-fault-ne0.false) in omega arith
 
 pub returns : goal.returns
 returns c =
@@ -48,4 +35,4 @@ returns c =
     let e = c.price_refusal-fault.ensures in
     let none = sym c.entry.ensures ∙ c.if-entry-ne0.false in
     let fine = sym e ∙ c.if-fault-ne0.false in
-    (part_closing _ _ _ fine none, e, spot_closing _ _ _ a.intraday.ptr a.closing.ptr fine none)
+    (part_closing _ _ _ fine none, e, spot_closing _ _ _ a.intraday.ref_ptr a.closing.ref_ptr fine none)

@@ -1,5 +1,4 @@
 -- `marking_prices::prices::prices_above` meets its contract. Assumes nothing.
-use borrow.Author.Rules.{rules}
 use mathlib.Core.Path.{sym, ◌∙◌}
 use Rattle.laws.specs.Cases.{or_left}
 use Rattle.marking_prices.proofs.prices.prices_above.Goals as goal

@@ -1,5 +1,4 @@
 -- `marking_sums::conversion::capped_sum` meets its contract. Assumes nothing.
-use borrow.Author.Rules.{rules}
 use mathlib.Core.Path.{sym}
 use native.Mathlib.Omega.{arith}
 use Rattle.exact.specs.Rounding.{capped_whole, capped_past}

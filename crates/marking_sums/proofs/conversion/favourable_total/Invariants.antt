@@ -1,13 +1,11 @@
 -- `marking_sums::conversion::favourable_total` meets its contract. The total is that of the currencies before c. Assumes nothing.
-use borrow.Author.Rules.{rules}
 use mathlib.Core.Path.{◌≡◌}
 use Prim.Native.Nat.{◌-◌, ◌≤◌}
-use native.Mathlib.Omega.{arith}
 use lib.ListN.{take}
 use Rattle.exact.specs.Rounding.{capped}
 use Rattle.rules.specs.Words as words
 use Rattle.rules.specs.Bounds.{every_currency}
-use Rattle.marking_sums.specs.Converting.{favourable_in, favourable_sum, total_none, total_more, total_done}
+use Rattle.marking_sums.specs.Converting.{favourable_in}
 use Rattle.marking_sums.proofs.conversion.favourable_total.Given as goal
 
 abbrev pub invariant-loop-c : goal.invariant-loop-c

@@ -1,5 +1,4 @@
 -- `marking_sums::conversion::sum_of` meets its contract. Assumes nothing.
-use borrow.Author.Rules.{rules}
 use mathlib.Core.Path.{sym, ap, ap₂, ◌∙◌}
 use Rattle.exact.specs.declared.Rounded.{Rounded}
 use Rattle.marking_sums.specs.Converting.{together, past_left}

@@ -1,6 +1,4 @@
 -- `marking_sums::marks::currency_of` meets its contract. Assumes nothing.
-use borrow.Author.Rules.{rules}
-use native.Mathlib.Omega.{arith}
 use Prim.Native.Nat.{◌<◌}
 use lib.ListN.{get_or}
 use Rattle.marking_sums.proofs.marks.currency_of.Goals as goal

@@ -1,8 +1,7 @@
 -- `marking_sums::marks::sums_of` meets its contract. The sums are those of the records before i. Assumes nothing.
-use borrow.Author.Rules.{rules}
 use mathlib.Core.Path.{◌≡◌, refl, ap, ◌∙◌}
 use mathlib.Core.Bool.{true}
-use Prim.Native.Nat.{◌-◌, ◌<◌, ◌≤◌}
+use Prim.Native.Nat.{◌<◌, ◌≤◌}
 use native.Mathlib.Omega.{arith}
 use lib.ListN.{length, get_or}
 use lib.Seq.{take_all}
@@ -15,7 +14,7 @@ use Rattle.rules.specs.Marks.{marked_of}
 use Rattle.rules.specs.declared.Position.{Position}
 use Rattle.rules.specs.declared.Book.{Book}
 use Rattle.book.specs.Views.{codes_long, positions_long}
-use Rattle.marking_sums.specs.Summing.{priced, counted, sum_counted, mark_small, MarkAsks, Summed, summed_none, summed_more, open_within, open_length, open_at, open_fits, open_currency}
+use Rattle.marking_sums.specs.Summing.{priced, counted, sum_counted, mark_small, MarkAsks, summed_none, summed_more, open_within, open_length, open_at, open_fits, open_currency}
 use Rattle.marking_sums.proofs.marks.sums_of.Goals as goal
 use Rattle.marking_sums.proofs.marks.sums_of.Tie as tie
 use Rattle.marking_sums.proofs.marks.sums_of.Lts as lts

@@ -1,5 +1,4 @@
 -- `playing::whole::play` meets its contract: each refusal, and the records played. Assumes nothing.
-use borrow.Author.Rules.{rules}
 use mathlib.Core.Path.{refl}
 use native.Mathlib.Omega.{arith}
 use Rattle.playing.specs.Whole.{answers_size, too_long_lem, wrong_book, no_room, played_all}

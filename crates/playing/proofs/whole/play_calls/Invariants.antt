@@ -1,13 +1,8 @@
 -- `playing::whole::play_calls` meets its contract: what is left decides the answers and the book at the end. Assumes nothing.
-use borrow.Author.Rules.{rules}
-use mathlib.Core.Path.{refl, sym, ◌∙◌}
 use Prim.Native.Nat.{◌-◌}
-use native.Mathlib.Omega.{arith}
 use lib.ListN.{length}
-use mir.Syntax.{w64}
-use mir.Val.{Fits}
-use Rattle.playing_records.specs.Playing.{State, end_book, end_answers, begins, ends, step, one_more, holds_sound, holds_long, answers_long}
-use Rattle.playing_records.specs.Again.{Refuses, known_behind}
+use Rattle.playing_records.specs.Playing.{State, end_book, end_answers}
+use Rattle.playing_records.specs.Again.{Refuses}
 use Rattle.playing.proofs.whole.play_calls.Given as goal
 
 abbrev pub invariant-loop-place : goal.invariant-loop-place

@@ -1,5 +1,4 @@
 -- `playing_records::again::apply_again` meets its contract: a roll on a book that is known to refuse it, or any other record. Assumes nothing.
-use borrow.Author.Rules.{rules}
 use mathlib.Core.Path.{sym, ◌∙◌}
 use Rattle.playing_records.specs.Again.{same_again}
 use Rattle.playing_records.proofs.again.apply_again.Goals as goal

@@ -1,5 +1,4 @@
 -- `playing_records::again::refused_behind` meets its contract, a kind of record at a time. Assumes nothing.
-use borrow.Author.Rules.{rules}
 use mathlib.Core.Path.{sym, ◌∙◌}
 use Rattle.laws.specs.Cases.{cond_yes, cond_no}
 use Rattle.playing_records.proofs.again.refused_behind.Goals as goal

@@ -1,5 +1,4 @@
 -- `playing_records::applying::apply` meets its contract, a kind of record at a time. Assumes nothing.
-use borrow.Author.Rules.{rules}
 use mathlib.Core.Path.{refl}
 use Rattle.rules.specs.Calls.{figure}
 use Rattle.playing_records.specs.Applying.{call_in, quiet, ran, no_call}

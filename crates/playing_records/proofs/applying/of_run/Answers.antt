@@ -1,5 +1,4 @@
 -- `playing_records::applying::of_run` meets its contract: shares moved, or a refusal. Assumes nothing.
-use borrow.Author.Rules.{rules}
 use mathlib.Core.Path.{sym, ap, ◌∙◌}
 use lib.IntN.{nat_abs}
 use Rattle.rules.specs.Calls.{number_of_run, figure_of_run}

@@ -1,5 +1,4 @@
 -- `playing_records::applying::put_answer` meets its contract: the figure stands behind the number. Assumes nothing.
-use borrow.Author.Rules.{rules}
 use native.Mathlib.Omega.{arith}
 use Rattle.fields.specs.FieldLaws.{after, length_digits}
 use Rattle.playing_records.proofs.applying.put_answer.Goals as goal

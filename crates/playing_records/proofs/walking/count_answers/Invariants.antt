@@ -1,11 +1,7 @@
 -- `playing_records::walking::count_answers` meets its contract: the answers counted and those of what is left are all. Assumes nothing.
-use borrow.Author.Rules.{rules}
-use mathlib.Core.Path.{sym, ◌∙◌}
 use Prim.Native.Nat.{◌-◌}
-use native.Mathlib.Omega.{arith}
 use lib.ListN.{length}
-use Rattle.playing_records.specs.First.{version_there}
-use Rattle.playing_records.specs.Counting.{count_other, Counting, count_begins, count_more, count_done}
+use Rattle.playing_records.specs.Counting.{Counting}
 use Rattle.playing_records.proofs.walking.count_answers.Given as goal
 
 abbrev pub invariant-loop-place : goal.invariant-loop-place

@@ -1,5 +1,4 @@
 -- `trading::entry::put_amended` meets its contract. Assumes nothing.
-use borrow.Author.Rules.{rules}
 use Rattle.rules.specs.Trades.{amended}
 use Rattle.rules.specs.Calls.{after}
 use Rattle.trading.proofs.entry.put_amended.Goals as goal

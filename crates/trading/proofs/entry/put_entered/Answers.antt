@@ -1,5 +1,4 @@
 -- `trading::entry::put_entered` meets its contract. Assumes nothing.
-use borrow.Author.Rules.{rules}
 use mathlib.Core.Path.{ap, ◌∙◌}
 use Rattle.rules.specs.Layout.{book_of, bytes_of}
 use Rattle.book.specs.Views.{trades_long}

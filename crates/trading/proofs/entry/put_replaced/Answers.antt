@@ -1,5 +1,4 @@
 -- `trading::entry::put_replaced` meets its contract. Assumes nothing.
-use borrow.Author.Rules.{rules}
 use mathlib.Core.Path.{ap, ◌∙◌}
 use native.Mathlib.Omega.{arith}
 use Rattle.rules.specs.Layout.{book_of, bytes_of}

@@ -1,16 +1,11 @@
 -- `trading::entry::renewed_rows` meets its contract. The loop's invariant: the rows before `i` are renewed, the others as they were. Assumes nothing.
-use borrow.Author.Rules.{rules}
 use mathlib.Core.Path.{◌≡◌}
 use mathlib.Core.Bool.{cond}
 use mathlib.Core.List.{map, ◌++◌}
 use Prim.Native.Nat.{ℕ, ◌-◌, ◌≤◌}
-use native.Mathlib.Omega.{arith}
 use lib.Dec.{eqb}
-use lib.ListN.{length, take, drop}
-use Rattle.rules.specs.Book.{no_trade}
+use lib.ListN.{take, drop}
 use Rattle.rules.specs.declared.Trade.{Trade}
-use Rattle.fields.specs.Lengths.{unmapped}
-use Rattle.trading.specs.Tables.{none_yet, renewed_more}
 use Rattle.trading.proofs.entry.renewed_rows.Given as goal
 
 abbrev pub anew : ℕ → Trade → Trade → Trade

@@ -1,18 +1,14 @@
 -- `trading::list::is_standing` meets its contract. The loop's invariant: it is none of the trades before `i`. Assumes nothing.
-use borrow.Author.Rules.{rules}
-use native.Mathlib.Omega.{arith}
 use Prim.Native.Nat.{ℕ, ◌-◌, ◌≤◌}
 use mathlib.Core.Bool.{Bool, false, not, ◌&&◌}
-use mathlib.Core.Path.{◌≡◌, sym, ap, ◌∙◌}
+use mathlib.Core.Path.{◌≡◌}
 use lib.Dec.{eqb}
 use lib.ListN.{take}
-use Rattle.rules.specs.Book.{list_of, no_trade}
+use Rattle.rules.specs.Book.{list_of}
 use Rattle.rules.specs.Layout.{book_of}
-use Rattle.rules.specs.Trades.{is_excluded, stands}
+use Rattle.rules.specs.Trades.{is_excluded}
 use Rattle.rules.specs.Words.{any}
 use Rattle.rules.specs.declared.Trade.{Trade}
-use Rattle.book.specs.Views.{trades_long}
-use Rattle.laws.specs.Finding.{any_none, listed_more, listed_found, listed_done}
 use Rattle.trading.proofs.list.is_standing.Given as goal
 
 abbrev pub asked : ℕ → Trade → Bool

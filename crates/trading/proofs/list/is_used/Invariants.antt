@@ -1,19 +1,13 @@
 -- `trading::list::is_used` meets its contract. The loop's invariant: it is none of the trades before `i`. Assumes nothing.
-use borrow.Author.Rules.{rules}
-use borrow.Author.Tests.{eq-eqb, ne_eqb}
-use native.Mathlib.Omega.{arith}
 use Prim.Native.Nat.{ℕ, ◌-◌, ◌≤◌}
 use mathlib.Core.Bool.{Bool, false}
-use mathlib.Core.Path.{◌≡◌, sym, ap, ◌∙◌}
+use mathlib.Core.Path.{◌≡◌}
 use lib.Dec.{eqb}
 use lib.ListN.{take}
-use Rattle.rules.specs.Book.{list_of, no_trade}
+use Rattle.rules.specs.Book.{list_of}
 use Rattle.rules.specs.Layout.{book_of}
-use Rattle.rules.specs.Trades.{used}
 use Rattle.rules.specs.Words.{any}
 use Rattle.rules.specs.declared.Trade.{Trade}
-use Rattle.book.specs.Views.{trades_long}
-use Rattle.laws.specs.Finding.{any_none, listed_more, listed_found, listed_done}
 use Rattle.trading.proofs.list.is_used.Given as goal
 
 abbrev pub asked : ℕ → Trade → Bool

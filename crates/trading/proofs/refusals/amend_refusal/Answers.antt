@@ -1,5 +1,4 @@
 -- `trading::refusals::amend_refusal` meets its contract: each return by the tests that were made so far. Assumes nothing.
-use borrow.Author.Rules.{rules}
 use mathlib.Core.Path.{sym, ap, ◌∙◌}
 use mathlib.Core.Bool.{not}
 use Rattle.rules.specs.Calls.{tests, answer_sound}
@@ -14,10 +13,10 @@ pub returns-then-not-is_standing : goal.returns-then-not-is_standing
 unfolding answer_sound tests
 returns-then-not-is_standing c =
     fine_first _ _ _ _ _ c.field_refusal-fault.ensures c.if-fault-ne0.false
-    (answer (stop (ap not (sym c.is_standing.ensures) ∙ c.if-not-is_standing.true)))
+    (answer (stop (ap not (sym c.is_standing.ensures ∙ c.if-not-is_standing.true))))
 
 pub returns : goal.returns
 unfolding answer_sound tests
 returns c =
     fine_first _ _ _ _ _ c.field_refusal-fault.ensures c.if-fault-ne0.false
-    (answer (pass (ap not (sym c.is_standing.ensures) ∙ c.if-not-is_standing.false) through))
+    (answer (pass (ap not (sym c.is_standing.ensures ∙ c.if-not-is_standing.false)) through))

@@ -1,5 +1,4 @@
 -- `trading::refusals::enter_refusal` meets its contract: each return by the tests that were made so far. Assumes nothing.
-use borrow.Author.Rules.{rules}
 use borrow.Author.Tests.{eq-eqb, ne_eqb, le-leb, lt-leb}
 use mathlib.Core.Path.{◌≡◌, sym, ap, ◌∙◌}
 use lib.Dec.{eqb, leb}
@@ -9,14 +8,7 @@ use Rattle.rules.specs.Calls.{tests, answer_sound}
 use Rattle.laws.specs.Cases.{or_left, or_right}
 use Rattle.laws.specs.Ways.{through, stop, pass, answer, fault_first, fine_first, both_fail}
 use Rattle.trading.proofs.refusals.enter_refusal.Goals as goal
-use Rattle.trading.proofs.refusals.enter_refusal.Tie as tie
-use Rattle.trading.proofs.refusals.enter_refusal.Lts as lts
-use Rattle.trading.proofs.refusals.enter_refusal.Reads as reads
-
--- ── what is known at a place of the code, to say a fact once for several goals ──
-
-abbrev After-entries_at : Type 0
-After-entries_at = lts.After-entries_at tie.the-claims reads.Pre reads.Post
+use Rattle.trading.proofs.refusals.enter_refusal.Goals.{After-entries_at}
 
 pub returns-then-fault-ne0 : goal.returns-then-fault-ne0
 unfolding answer_sound tests
@@ -42,11 +34,11 @@ unfolding answer_sound tests
 returns-then-entries_at-ge256 c =
     fine_first _ _ _ _ _ c.field_refusal-fault.ensures c.if-fault-ne0.false
     (answer (pass (both_fail _ _ (ne_eqb _ _ c.if-t-eq0.false) (sym c.is_used.ensures ∙ c.if-is_used.false))
-    (stop (full c.before.before ∙ le-leb _ _ c.if-entries_at-ge256.true))))
+    (stop (full (goal.at.returns-then-entries_at-ge256 c).After-entries_at ∙ le-leb _ _ c.if-entries_at-ge256.true))))
 
 pub returns : goal.returns
 unfolding answer_sound tests
 returns c =
     fine_first _ _ _ _ _ c.field_refusal-fault.ensures c.if-fault-ne0.false
     (answer (pass (both_fail _ _ (ne_eqb _ _ c.if-t-eq0.false) (sym c.is_used.ensures ∙ c.if-is_used.false))
-    (pass (full c.before.before ∙ lt-leb _ _ c.if-entries_at-ge256.false) through)))
+    (pass (full (goal.at.returns c).After-entries_at ∙ lt-leb _ _ c.if-entries_at-ge256.false) through)))

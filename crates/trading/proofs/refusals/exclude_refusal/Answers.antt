@@ -1,5 +1,4 @@
 -- `trading::refusals::exclude_refusal` meets its contract: each return by the tests that were made so far. Assumes nothing.
-use borrow.Author.Rules.{rules}
 use mathlib.Core.Path.{sym, ap, ◌∙◌}
 use mathlib.Core.Bool.{not}
 use Rattle.rules.specs.Calls.{tests, answer_sound}
@@ -8,8 +7,8 @@ use Rattle.trading.proofs.refusals.exclude_refusal.Goals as goal
 
 pub returns-then-not-is_standing : goal.returns-then-not-is_standing
 unfolding answer_sound tests
-returns-then-not-is_standing c = answer (stop (ap not (sym c.is_standing.ensures) ∙ c.if-not-is_standing.true))
+returns-then-not-is_standing c = answer (stop (ap not (sym c.is_standing.ensures ∙ c.if-not-is_standing.true)))
 
 pub returns : goal.returns
 unfolding answer_sound tests
-returns c = answer (pass (ap not (sym c.is_standing.ensures) ∙ c.if-not-is_standing.false) through)
+returns c = answer (pass (ap not (sym c.is_standing.ensures ∙ c.if-not-is_standing.false)) through)

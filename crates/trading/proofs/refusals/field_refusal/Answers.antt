@@ -1,19 +1,11 @@
 -- `trading::refusals::field_refusal` meets its contract: each return by the tests that were made so far. Assumes nothing.
-use borrow.Author.Rules.{rules}
 use mathlib.Core.Path.{◌≡◌, sym, ◌∙◌}
 use Rattle.rules.specs.Layout.{book_of}
 use Rattle.rules.specs.Trades.{bad_security}
 use Rattle.rules.specs.Calls.{field_tests}
 use Rattle.laws.specs.Ways.{through, stop, pass, answer}
 use Rattle.trading.proofs.refusals.field_refusal.Goals as goal
-use Rattle.trading.proofs.refusals.field_refusal.Tie as tie
-use Rattle.trading.proofs.refusals.field_refusal.Lts as lts
-use Rattle.trading.proofs.refusals.field_refusal.Reads as reads
-
--- ── what is known at a place of the code, to say a fact once for several goals ──
-
-abbrev After-bad_security : Type 0
-After-bad_security = lts.After-bad_security tie.the-claims reads.Pre reads.Post
+use Rattle.trading.proofs.refusals.field_refusal.Goals.{After-bad_security}
 
 security : (c : After-bad_security) → c.bad_security.result ≡ bad_security (book_of c.args.b.now) c.args.t.security
 security c = c.bad_security.ensures (book_of c.args.b.now) (sym c.codes_of-codes.ensures)
@@ -24,20 +16,20 @@ returns-then-bad_accounts c = answer (stop (sym c.bad_accounts.ensures ∙ c.if-
 
 pub returns-then-bad_security : goal.returns-then-bad_security
 unfolding field_tests
-returns-then-bad_security c = answer (pass (sym c.bad_accounts.ensures ∙ c.if-bad_accounts.false) (stop (sym (security c.before.before) ∙ c.if-bad_security.true)))
+returns-then-bad_security c = answer (pass (sym c.bad_accounts.ensures ∙ c.if-bad_accounts.false) (stop (sym (security (goal.at.returns-then-bad_security c).After-bad_security) ∙ c.if-bad_security.true)))
 
 pub returns-then-bad_quantity : goal.returns-then-bad_quantity
 unfolding field_tests
-returns-then-bad_quantity c = answer (pass (sym c.bad_accounts.ensures ∙ c.if-bad_accounts.false) (pass (sym (security c.before.before.before.before) ∙ c.if-bad_security.false) (stop (sym c.bad_quantity.ensures ∙ c.if-bad_quantity.true))))
+returns-then-bad_quantity c = answer (pass (sym c.bad_accounts.ensures ∙ c.if-bad_accounts.false) (pass (sym (security (goal.at.returns-then-bad_quantity c).After-bad_security) ∙ c.if-bad_security.false) (stop (sym c.bad_quantity.ensures ∙ c.if-bad_quantity.true))))
 
 pub returns-then-bad_price : goal.returns-then-bad_price
 unfolding field_tests
-returns-then-bad_price c = answer (pass (sym c.bad_accounts.ensures ∙ c.if-bad_accounts.false) (pass (sym (security c.before.before.before.before.before.before) ∙ c.if-bad_security.false) (pass (sym c.bad_quantity.ensures ∙ c.if-bad_quantity.false) (stop (sym c.bad_price.ensures ∙ c.if-bad_price.true)))))
+returns-then-bad_price c = answer (pass (sym c.bad_accounts.ensures ∙ c.if-bad_accounts.false) (pass (sym (security (goal.at.returns-then-bad_price c).After-bad_security) ∙ c.if-bad_security.false) (pass (sym c.bad_quantity.ensures ∙ c.if-bad_quantity.false) (stop (sym c.bad_price.ensures ∙ c.if-bad_price.true)))))
 
 pub returns-then-same_account : goal.returns-then-same_account
 unfolding field_tests
-returns-then-same_account c = answer (pass (sym c.bad_accounts.ensures ∙ c.if-bad_accounts.false) (pass (sym (security c.before.before.before.before.before.before.before.before) ∙ c.if-bad_security.false) (pass (sym c.bad_quantity.ensures ∙ c.if-bad_quantity.false) (pass (sym c.bad_price.ensures ∙ c.if-bad_price.false) (stop (sym c.same_account.ensures ∙ c.if-same_account.true))))))
+returns-then-same_account c = answer (pass (sym c.bad_accounts.ensures ∙ c.if-bad_accounts.false) (pass (sym (security (goal.at.returns-then-same_account c).After-bad_security) ∙ c.if-bad_security.false) (pass (sym c.bad_quantity.ensures ∙ c.if-bad_quantity.false) (pass (sym c.bad_price.ensures ∙ c.if-bad_price.false) (stop (sym c.same_account.ensures ∙ c.if-same_account.true))))))
 
 pub returns : goal.returns
 unfolding field_tests
-returns c = answer (pass (sym c.bad_accounts.ensures ∙ c.if-bad_accounts.false) (pass (sym (security c.before.before.before.before.before.before.before.before) ∙ c.if-bad_security.false) (pass (sym c.bad_quantity.ensures ∙ c.if-bad_quantity.false) (pass (sym c.bad_price.ensures ∙ c.if-bad_price.false) (pass (sym c.same_account.ensures ∙ c.if-same_account.false) through)))))
+returns c = answer (pass (sym c.bad_accounts.ensures ∙ c.if-bad_accounts.false) (pass (sym (security (goal.at.returns c).After-bad_security) ∙ c.if-bad_security.false) (pass (sym c.bad_quantity.ensures ∙ c.if-bad_quantity.false) (pass (sym c.bad_price.ensures ∙ c.if-bad_price.false) (pass (sym c.same_account.ensures ∙ c.if-same_account.false) through)))))

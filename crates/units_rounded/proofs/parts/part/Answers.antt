@@ -6,20 +6,13 @@ use lib.IntN.{nat_abs}
 use Rattle.units.specs.Units.{shares_of, mils_of}
 use Rattle.units_rounded.proofs.PartLaws.{part_signed}
 use Rattle.units_rounded.proofs.parts.part.Goals as goal
-use Rattle.units_rounded.proofs.parts.part.Tie as tie
-use Rattle.units_rounded.proofs.parts.part.Lts as lts
-use Rattle.units_rounded.proofs.parts.part.Reads as reads
-
--- ── what is known at a place of the code, to say a fact once for several goals ──
-
-abbrev After-portion : Type 0
-After-portion = lts.After-portion tie.the-claims reads.Pre reads.Post
+use Rattle.units_rounded.proofs.parts.part.Goals.{After-portion-s}
 
 -- the size of the part
-portioned : (c : After-portion) → c.portion-s.result.0 ≡ nat_abs (mils_of c.args.m) * nat_abs (shares_of c.args.k) / nat_abs (shares_of c.args.q)
+portioned : (c : After-portion-s) → c.portion-s.result.0 ≡ nat_abs (mils_of c.args.m) * nat_abs (shares_of c.args.k) / nat_abs (shares_of c.args.q)
 portioned c =
     rw (← c.size.ensures, ← c.size-2.ensures, ← c.size-3.ensures)
     c.portion-s.ensures.0
 
 pub returns : goal.returns
-returns c = (rw (part_signed _ _ _, ← portioned c.before.before, ← c.is_negative.ensures) c.of.ensures.0, omega arith)
+returns c = (rw (part_signed _ _ _, ← portioned (goal.at.returns c).After-portion-s, ← c.is_negative.ensures) c.of.ensures.0, omega arith)

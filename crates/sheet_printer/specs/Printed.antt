@@ -1,0 +1,12 @@
+-- What is printed, where the bytes of the input and of the output are known.
+use Rattle.std.specs.Prelude.{ℕ, ◌≤◌, Bool, cond, List, [], length, take, Option}
+use Rattle.std.specs.Io.KnownBytes.{Appends, Consumes}
+use Rattle.rules.specs.Sheet.{sheet_of}
+
+-- the output grew by a front of some bytes: by all of them, or by fewer
+abbrev pub IsFrontWritten : Option (List ℕ) → Option (List ℕ) → List ℕ → Type 0
+IsFrontWritten old new bs = (n : ℕ) × (n ≤ length bs) × Appends old new (take n bs)
+
+-- some bytes of the input were read, and the output grew by a front of their sheet, and by nothing where a read failed
+abbrev pub IsPrinted : Option (List ℕ) → Option (List ℕ) → Option (List ℕ) → Option (List ℕ) → Type 0
+IsPrinted input input' output output' = (file : List ℕ) × (failed : Bool) × Consumes input input' file × IsFrontWritten output output' (cond failed [] (sheet_of file))
