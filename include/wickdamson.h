@@ -1,6 +1,6 @@
 /* Wickdamson: the book of a clearing house, for programs in other languages (C, C++, and whatever calls C).
  *
- * The functions stand in the archive that `rt staticlib wickdamson` writes (target/staticlib/libwickdamson.a), for x86-64 Linux.
+ * The functions stand in the archive that `tools/archive wickdamson` writes (target/staticlib/libwickdamson.a), for x86-64 Linux.
  * Each is proved: its answer, every figure that it writes through a pointer and every byte of every buffer that it is lent are
  * what the rules of the house say (crates/rules/specs), for all inputs. What a function looks like on this side is not proved:
  * it is this file. A program may ask at its start whether wick_version() is the WICK_VERSION that it was compiled with.

@@ -2,7 +2,7 @@
  * the same book and the same sheet; and each other function once, accepted and refused. Prints the sheet of the example;
  * a difference is said on standard error, and the exit status is 1.
  *
- *     rt staticlib wickdamson
+ *     tools/archive wickdamson
  *     gcc -O2 -Iinclude tests/embed.c target/staticlib/libwickdamson.a -o target/embed && target/embed
  */
 #include "wickdamson.h"

@@ -3,7 +3,7 @@ plays the whole example of the rules document so, compares the file with the boo
 files that are no book, and prints the sheet. A difference is said, and the exit status is 1. As a module (import embed) it is a
 binding to copy.
 
-    rt staticlib wickdamson
+    tools/archive wickdamson
     gcc -shared -o target/libwickdamson.so -Wl,--whole-archive target/staticlib/libwickdamson.a -Wl,--no-whole-archive
     python3 tests/embed.py
 

@@ -1,4 +1,4 @@
-//! Links the archive of the proved book, which `rt staticlib wickdamson` writes at the root of the repository; or the one in the
+//! Links the archive of the proved book, which `tools/archive wickdamson` writes at the root of the repository; or the one in the
 //! folder that the variable WICKDAMSON_LIB names.
 
 use std::env;
@@ -16,7 +16,7 @@ fn main() {
     println!("cargo:rerun-if-changed={}", archive.display());
     if !archive.is_file() {
         eprintln!("error: {} is missing.", archive.display());
-        eprintln!("It is the archive of the proved book. Build it at the root of the repository first: rt staticlib wickdamson");
+        eprintln!("It is the archive of the proved book. Build it at the root of the repository first: tools/archive wickdamson");
         exit(1);
     }
     println!("cargo:rustc-link-search=native={}", folder.display());

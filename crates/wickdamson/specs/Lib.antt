@@ -4,5 +4,3 @@ pub mod Lines
 -- laws
 pub mod Figures
 pub mod Priced
-pub mod Wide
-pub mod Refused

@@ -1,6 +1,6 @@
 //! The book of a clearing house, proved, for programs in Rust.
 //!
-//! The archive `target/staticlib/libwickdamson.a` (`rt staticlib wickdamson` builds it) holds the proved calls; this crate makes them
+//! The archive `target/staticlib/libwickdamson.a` (`tools/archive wickdamson` builds it) holds the proved calls; this crate makes them
 //! safe to use. [`Book`] keeps a book and makes the calls on it; [`bytes`] has the same calls over lent bytes of any
 //! length and origin, for those who keep books elsewhere. [`Line`] and [`Tally`] write the lines of a sheet one by one.
 //!

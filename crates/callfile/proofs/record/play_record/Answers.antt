@@ -1,5 +1,4 @@
 -- `callfile::record::play_record` meets its contract: the file's refusals, another version, the end, and what stands there. Assumes nothing.
-use borrow.Author.Rules.{rules}
 use mathlib.Core.Path.{sym, ◌∙◌}
 use Rattle.callfile.specs.Answering.{file_long, book_wrong, not_refused, version_other, file_ends, told}
 use Rattle.callfile.proofs.record.play_record.Goals as goal
@@ -22,8 +21,7 @@ returns-then-past_end c =
     (sym c.past_end.ensures ∙ c.if-past_end.true))
 
 pub applied-requires : goal.applied-requires
-applied-requires c =
-    (
+applied-requires c = (
   record {
     short = c.if-file-gt65535.false;
     long = c.if-book-ne-BOOK_BYTES.false;

@@ -1,5 +1,4 @@
 -- `callfile::record::ran` meets its contract: moved, or refused. Assumes nothing.
-use borrow.Author.Rules.{rules}
 use mathlib.Core.Path.{sym, ap, ◌∙◌}
 use Rattle.rules.specs.declared.RunAnswer.{RunAnswer}
 use Rattle.callfile.specs.Answering.{ran_as}

@@ -1,6 +1,4 @@
 -- `house::creation::create` meets its contract: each return by the tests that were made so far. Assumes nothing.
-use borrow.Author.Rules.{rules}
-use borrow.Author.Tests.{not-true, not-false}
 use mathlib.Core.Path.{sym, ap, ◌∙◌}
 use Rattle.rules.specs.Words.{all}
 use Rattle.rules.specs.Book.{empty_book}
@@ -18,10 +16,10 @@ returns-then-codes-ne32 c = no_codes _ _ c.if-book-ne-BOOK_BYTES.false c.if-code
 pub returns-then-not-codes_fit : goal.returns-then-not-codes_fit
 returns-then-not-codes_fit c =
     bad_codes _ _ c.if-book-ne-BOOK_BYTES.false c.if-codes-ne32.false
-    (ap (all is_code) (sym c.table_of-table.ensures) ∙ sym c.codes_fit.ensures ∙ not-true _ c.if-not-codes_fit.true)
+    (ap (all is_code) (sym c.table_of-table.ensures) ∙ sym c.codes_fit.ensures ∙ c.if-not-codes_fit.true)
 
 pub returns : goal.returns
 returns c =
     created _ _ _ c.if-book-ne-BOOK_BYTES.false c.if-codes-ne32.false
-    (ap (all is_code) (sym c.table_of-table.ensures) ∙ sym c.codes_fit.ensures ∙ not-false _ c.if-not-codes_fit.false)
+    (ap (all is_code) (sym c.table_of-table.ensures) ∙ sym c.codes_fit.ensures ∙ c.if-not-codes_fit.false)
     (c.store.ensures ∙ ap bytes_of (c.empty_book-fresh.ensures ∙ ap empty_book c.table_of-table.ensures))

@@ -1,10 +1,9 @@
 -- `house::creation::table_of` meets its contract. The invariant: the first i codes are copied. Assumes nothing.
-use borrow.Author.Rules.{rules}
 use native.Mathlib.Omega.{arith}
 use native.Mathlib.Numerals.{add-one}
 use mathlib.Core.Path.{◌≡◌, refl, sym, ap, ◌∙◌}
 use mathlib.Core.List.{List, [], ◌∷◌, ◌++◌}
-use Prim.Native.Nat.{ℕ, ◌≤◌, ◌<◌, ◌+◌, ◌-◌}
+use Prim.Native.Nat.{ℕ, ◌<◌, ◌+◌}
 use lib.ListN.{length, take, get_or, set, length-set}
 use lib.Seq.{take-suc, take-suc-set, take_all}
 use Rattle.house.proofs.creation.table_of.Goals as goal

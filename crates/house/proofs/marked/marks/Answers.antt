@@ -1,5 +1,4 @@
 -- `house::marked::marks` meets its contract: no sound book, or the answer of a sound one. Assumes nothing.
-use borrow.Author.Rules.{rules}
 use mathlib.Core.Path.{◌≡◌, sym, ◌∙◌}
 use mathlib.Core.List.{List}
 use Prim.Native.Nat.{ℕ}

@@ -1,5 +1,4 @@
 -- `house::settlement::roll` meets its contract: no sound book, or the call's own answer. Assumes nothing.
-use borrow.Author.Rules.{rules}
 use mathlib.Core.Path.{sym, ◌∙◌}
 use Rattle.house.specs.Lent.{unsound}
 use Rattle.house.proofs.settlement.roll.Goals as goal

@@ -1,5 +1,4 @@
 -- `house::settlement::run` meets its contract: no sound book, or the call's own answer. Assumes nothing.
-use borrow.Author.Rules.{rules}
 use mathlib.Core.Path.{sym, ◌∙◌}
 use Rattle.laws.specs.EnumAnswers.{run_told}
 use Rattle.house.specs.Lent.{run_unsound}

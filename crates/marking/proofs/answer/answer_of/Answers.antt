@@ -1,5 +1,4 @@
 -- `marking::answer::answer_of` meets its contract. Assumes nothing.
-use borrow.Author.Rules.{rules}
 use mathlib.Core.Path.{sym, ◌∙◌}
 use Rattle.marking.specs.Answering.{answer_past, down_within, answer_due}
 use Rattle.marking.proofs.answer.answer_of.Goals as goal

@@ -1,5 +1,4 @@
 -- `marking::answer::due_of` meets its contract. Assumes nothing.
-use borrow.Author.Rules.{rules}
 use Rattle.marking.specs.Answering.{due_is}
 use Rattle.marking.proofs.answer.due_of.Goals as goal
 

@@ -1,5 +1,4 @@
 -- `marking::answer::marks_of` meets its contract: each return by the tests that were made so far. Assumes nothing.
-use borrow.Author.Rules.{rules}
 use mathlib.Core.Path.{◌≡◌, sym, ◌∙◌}
 use mathlib.Core.List.{[]}
 use Rattle.rules.specs.Words.{any, first}

@@ -1,5 +1,4 @@
 -- `marking::terms::bad_rates` meets its contract. Assumes nothing.
-use borrow.Author.Rules.{rules}
 use borrow.Author.Tests.{eq-eqb, ne_eqb}
 use mathlib.Core.Path.{sym, ◌∙◌}
 use Rattle.rules.specs.Marks.{rate_of, haircut_of, bad_rates}

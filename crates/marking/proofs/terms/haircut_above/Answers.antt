@@ -1,13 +1,8 @@
 -- `marking::terms::haircut_above` meets its contract. No haircut before c is above the whole. Assumes nothing.
-use borrow.Author.Rules.{rules}
 use borrow.Author.Tests.{lt-ltb, le-ltb}
-use mathlib.Core.Path.{◌≡◌}
-use mathlib.Core.Bool.{false}
-use Prim.Native.Nat.{◌-◌, ◌≤◌}
 use native.Mathlib.Omega.{arith}
-use lib.ListN.{length, take}
 use Rattle.units.specs.Units.{whole_haircut}
-use Rattle.rules.specs.Words.{any, above}
+use Rattle.rules.specs.Words.{above}
 use Rattle.laws.specs.Finding.{any_none, any_more, any_found, any_done}
 use Rattle.marking.proofs.terms.haircut_above.Goals as goal
 
@@ -18,8 +13,7 @@ pub returns-then-haircuts-c-gt10000 : goal.returns-then-haircuts-c-gt10000
 returns-then-haircuts-c-gt10000 c = any_found (above whole_haircut) c.args.haircuts.now c.loop-c.c 0 (omega arith) (lt-ltb _ _ c.if-haircuts-c-gt10000.true)
 
 pub loop-c-preserved : goal.loop-c-preserved
-loop-c-preserved c =
-    (
+loop-c-preserved c = (
   omega arith,
   any_more (above whole_haircut) c.args.haircuts.now c.loop-c.c 0 (omega arith) c.loop-c.invariant.1 (le-ltb _ _ c.if-haircuts-c-gt10000.false),
 )

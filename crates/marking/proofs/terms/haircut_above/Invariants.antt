@@ -1,14 +1,10 @@
 -- `marking::terms::haircut_above` meets its contract. No haircut before c is above the whole. Assumes nothing.
-use borrow.Author.Rules.{rules}
-use borrow.Author.Tests.{lt-ltb, le-ltb}
 use mathlib.Core.Path.{◌≡◌}
 use mathlib.Core.Bool.{false}
 use Prim.Native.Nat.{◌-◌, ◌≤◌}
-use native.Mathlib.Omega.{arith}
 use lib.ListN.{length, take}
 use Rattle.units.specs.Units.{whole_haircut}
 use Rattle.rules.specs.Words.{any, above}
-use Rattle.laws.specs.Finding.{any_none, any_more, any_found, any_done}
 use Rattle.marking.proofs.terms.haircut_above.Given as goal
 
 abbrev pub invariant-loop-c : goal.invariant-loop-c

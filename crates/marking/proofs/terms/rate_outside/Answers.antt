@@ -1,12 +1,8 @@
 -- `marking::terms::rate_outside` meets its contract. No rate before c is outside. Assumes nothing.
-use borrow.Author.Rules.{rules}
-use mathlib.Core.Path.{◌≡◌, sym, ◌∙◌}
-use mathlib.Core.Bool.{false}
-use Prim.Native.Nat.{◌-◌, ◌≤◌}
+use mathlib.Core.Path.{sym, ◌∙◌}
 use native.Mathlib.Omega.{arith}
-use lib.ListN.{length, take}
 use Rattle.units.specs.Units.{top_rate}
-use Rattle.rules.specs.Words.{any, outside}
+use Rattle.rules.specs.Words.{outside}
 use Rattle.laws.specs.Finding.{any_none, any_more, any_found, any_done}
 use Rattle.marking.proofs.terms.rate_outside.Goals as goal
 
@@ -17,8 +13,7 @@ pub returns-then-is_outside : goal.returns-then-is_outside
 returns-then-is_outside c = any_found (outside 1 top_rate) c.args.rates.now c.loop-c.c 0 (omega arith) (sym c.is_outside.ensures ∙ c.if-is_outside.true)
 
 pub loop-c-preserved : goal.loop-c-preserved
-loop-c-preserved c =
-    (
+loop-c-preserved c = (
   omega arith,
   any_more (outside 1 top_rate) c.args.rates.now c.loop-c.c 0 (omega arith) c.loop-c.invariant.1 (sym c.is_outside.ensures ∙ c.if-is_outside.false),
 )

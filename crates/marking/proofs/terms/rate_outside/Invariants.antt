@@ -1,13 +1,10 @@
 -- `marking::terms::rate_outside` meets its contract. No rate before c is outside. Assumes nothing.
-use borrow.Author.Rules.{rules}
-use mathlib.Core.Path.{◌≡◌, sym, ◌∙◌}
+use mathlib.Core.Path.{◌≡◌}
 use mathlib.Core.Bool.{false}
 use Prim.Native.Nat.{◌-◌, ◌≤◌}
-use native.Mathlib.Omega.{arith}
 use lib.ListN.{length, take}
 use Rattle.units.specs.Units.{top_rate}
 use Rattle.rules.specs.Words.{any, outside}
-use Rattle.laws.specs.Finding.{any_none, any_more, any_found, any_done}
 use Rattle.marking.proofs.terms.rate_outside.Given as goal
 
 abbrev pub invariant-loop-c : goal.invariant-loop-c

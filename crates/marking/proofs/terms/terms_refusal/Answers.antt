@@ -1,5 +1,4 @@
 -- `marking::terms::terms_refusal` meets its contract: each return by the tests that were made so far. Assumes nothing.
-use borrow.Author.Rules.{rules}
 use borrow.Author.Tests.{lt-ltb, le-ltb}
 use mathlib.Core.Path.{sym, ◌∙◌}
 use Rattle.rules.specs.Trades.{no_account}

@@ -1,23 +1,16 @@
 -- `marking::unpriced::has_unpriced` meets its contract. No record before i is one of the account that lacks a price. Assumes nothing.
-use borrow.Author.Rules.{rules}
-use mathlib.Core.Path.{◌≡◌, sym, ap, ◌∙◌}
+use mathlib.Core.Path.{◌≡◌}
 use mathlib.Core.Bool.{Bool, false, ◌&&◌}
 use mathlib.Core.List.{List}
-use Prim.Native.Nat.{ℕ, ◌-◌, ◌<◌, ◌≤◌}
-use native.Mathlib.Omega.{arith}
+use Prim.Native.Nat.{ℕ, ◌-◌, ◌≤◌}
 use lib.Dec.{eqb}
-use lib.ListN.{length, get_or, take}
+use lib.ListN.{take}
 use Rattle.rules.specs.Words.{any}
-use Rattle.rules.specs.Book.{account_of, open_of, no_position}
+use Rattle.rules.specs.Book.{account_of, open_of}
 use Rattle.rules.specs.Layout.{book_of}
-use Rattle.rules.specs.Sound.{records_of}
-use Rattle.rules.specs.Marks.{lacks_price, marked_of}
+use Rattle.rules.specs.Marks.{lacks_price}
 use Rattle.rules.specs.declared.Position.{Position}
-use Rattle.rules.specs.declared.Book.{Book}
-use Rattle.book.specs.Views.{positions_long}
-use Rattle.laws.specs.Finding.{any_none, listed_more, listed_found, listed_done}
 use Rattle.marking_sums.specs.Summing.{priced}
-use Rattle.marking_prices.specs.Looking.{any_kept}
 use Rattle.marking.proofs.unpriced.has_unpriced.Given as goal
 
 abbrev pub is_one : ℕ → List ℕ → List ℕ → Position → Bool

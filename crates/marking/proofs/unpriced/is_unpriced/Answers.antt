@@ -1,5 +1,4 @@
 -- `marking::unpriced::is_unpriced` meets its contract. Assumes nothing.
-use borrow.Author.Rules.{rules}
 use borrow.Author.Tests.{eq-eqb, ne_eqb}
 use mathlib.Core.Path.{sym, ◌∙◌}
 use Rattle.marking.proofs.unpriced.is_unpriced.Goals as goal

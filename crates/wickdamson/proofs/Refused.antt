@@ -15,7 +15,7 @@ use Rattle.rules.specs.Calls.{enter, deposit, run, exclude, tests, field_tests, 
 use Rattle.rules.specs.declared.Trade.{Trade}
 use Rattle.rules.specs.declared.Book.{Book}
 use Rattle.wickdamson.specs.Fields.{byte_of, number_of, trade_of}
-use Rattle.wickdamson.specs.Wide.{wide_number, same_account_lem, same_security}
+use Rattle.wickdamson.proofs.WideNumbers.{wide_number, same_account_lem, same_security}
 
 no_account_lem : (n : ℕ) → 63 < n → no_account (byte_of n) ≡ true
 unfolding no_account
