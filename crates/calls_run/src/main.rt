@@ -1,7 +1,10 @@
 // Plays a script of commands from standard input on one book, through the public calls of `house`, and prints every
 // answer. The script and the expected output (stdout) are written by tests/calls.py, which says what each line shows.
-use libc::STDIN_FILENO;
+#![tactic(auto)]
+
 use rules::RunAnswer;
+use std::io;
+use std::io::{ErrorKind, Read};
 
 // Securities 0 to 3 in the currencies 0 to 3, the rest unlisted.
 fn create(book: &mut [u8]) -> u8 {
@@ -14,14 +17,15 @@ fn create(book: &mut [u8]) -> u8 {
 }
 
 // The shares moved stand behind the answer of a run.
-fn print_run(answer: RunAnswer) {
+fn print_run(rt: &impl Print, answer: RunAnswer) -> io::Result<()> {
     match answer {
         RunAnswer::Moved(q) => {
-            calls_run_script::print_answer(0);
-            calls_run_script::print_number(q);
+            calls_run_script::print_answer(rt, 0)?;
+            calls_run_script::print_number(rt, q)?;
         }
-        RunAnswer::RunRefused(n) => calls_run_script::print_answer(n),
+        RunAnswer::RunRefused(n) => calls_run_script::print_answer(rt, n)?,
     }
+    Ok(())
 }
 
 // A trade entered or amended, or its number excluded.
@@ -55,44 +59,65 @@ fn call(command: &[u8; 16], book: &mut [u8]) -> u8 {
 }
 
 // What stands in the book: 10 whether it was kept, 11 nothing but a text, 12 some bytes, 13 its records and charges.
-fn look(command: &[u8; 16], book: &[u8], copied: &[u8]) {
+fn look(rt: &impl Print, command: &[u8; 16], book: &[u8], copied: &[u8]) -> io::Result<()> {
     let kind = command[0];
     match kind {
-        10 => calls_run_script::say_whether_kept(book, copied),
-        11 => calls_run_script::say(command),
-        12 => calls_run_script::show(command, book),
-        _ => calls_run_script::show_all(book),
+        10 => calls_run_script::say_whether_kept(rt, book, copied)?,
+        11 => calls_run_script::say(rt, command)?,
+        12 => calls_run_script::show(rt, command, book)?,
+        _ => calls_run_script::show_all(rt, book)?,
     }
+    Ok(())
 }
 
 fn empty(book: &mut [u8]) {
     create(book);
 }
 
-fn obey(command: &[u8; 16], book: &mut [u8], copied: &mut [u8]) {
+fn obey(rt: &impl Print, command: &[u8; 16], book: &mut [u8], copied: &mut [u8]) -> io::Result<()> {
     let kind = command[0];
     match kind {
-        7 => print_run(house::run(book, command[1])),
+        7 => print_run(rt, house::run(book, command[1]))?,
         8 => calls_run_script::write(command, book),
         9 => calls_run_script::copy(book, copied),
-        10 | 11 | 12 | 13 => look(command, book, copied),
+        10 | 11 | 12 | 13 => look(rt, command, book, copied)?,
         14 => empty(book),
-        _ => calls_run_script::print_answer(call(command, book)),
+        _ => calls_run_script::print_answer(rt, call(command, book))?,
+    }
+    Ok(())
+}
+
+// Whether the room was filled; false where the input ended before.
+fn filled<R: Read>(input: &mut R, room: &mut [u8]) -> io::Result<bool> {
+    match input.read_exact(room) {
+        Ok(()) => Ok(true),
+        Err(e) => {
+            if e.kind() == ErrorKind::UnexpectedEof {
+                return Ok(false);
+            }
+            Err(e)
+        }
     }
 }
 
-fn play(book: &mut [u8], copied: &mut [u8]) {
+fn play<R: Read>(
+    rt: &impl Print,
+    input: &mut R,
+    book: &mut [u8],
+    copied: &mut [u8],
+) -> io::Result<()> {
     let mut command = [0u8; 16];
     for i in 0..8192usize {
-        if io::read_full(STDIN_FILENO, &mut command) < 16 {
-            return;
+        if !filled(input, &mut command)? {
+            return Ok(());
         }
-        obey(&command, book, copied);
+        obey(rt, &command, book, copied)?;
     }
+    Ok(())
 }
 
-fn main() {
+fn main(rt: HostRuntime) -> io::Result<()> {
     let mut book = [0u8; 42278];
     let mut copied = [0u8; 42278];
-    play(&mut book, &mut copied);
+    play(&rt, &mut rt.stdin(), &mut book, &mut copied)
 }

@@ -1,24 +1,26 @@
 // What the program calls_run is written with, below the calls of the house: the fields of a command, printing, and looking at the bytes of a book.
-use libc::STDOUT_FILENO;
+#![tactic(auto)]
+
 use rules::Trade;
+use std::io;
 use units::{Price, Shares};
 
-fn print_text(text: &[u8]) {
-    io::write_all(STDOUT_FILENO, text);
+fn print_text(rt: &impl Print, text: &[u8]) -> io::Result<()> {
+    rt.write_all(text)
 }
 
-pub fn print_answer(n: u8) {
-    print_text(b" ");
-    io::print_decimal(STDOUT_FILENO, n as u64);
+pub fn print_answer(rt: &impl Print, n: u8) -> io::Result<()> {
+    print_text(rt, b" ")?;
+    rt.print(n as u64)
 }
 
-pub fn print_number(n: Shares) {
-    print_text(b" ");
+pub fn print_number(rt: &impl Print, n: Shares) -> io::Result<()> {
+    print_text(rt, b" ")?;
     if n.is_negative() {
-        print_text(b"-");
+        print_text(rt, b"-")?;
     }
     let size = n.size();
-    io::print_decimal(STDOUT_FILENO, size.0);
+    rt.print(size.0)
 }
 
 // The fields of a command stand from byte 1 on, as in a call file.
@@ -79,86 +81,88 @@ fn same(a: &[u8], b: &[u8]) -> bool {
 }
 
 // The number in some bytes of the book: place (2 bytes) and count (1); 8 bytes are a signed number.
-pub fn show(command: &[u8; 16], book: &[u8]) {
+pub fn show(rt: &impl Print, command: &[u8; 16], book: &[u8]) -> io::Result<()> {
     let at = fields::get(command, 1, 2) as usize;
     let n = fields::get(command, 3, 1) as usize;
     if 8 < n {
-        return;
+        return Ok(());
     }
     if book.len() < at + n {
-        return;
+        return Ok(());
     }
-    print_number(Shares::from_bits(fields::get(book, at, n)));
+    print_number(rt, Shares::from_bits(fields::get(book, at, n)))
 }
 
-fn show_record(book: &[u8], row: usize) {
+fn show_record(rt: &impl Print, book: &[u8], row: usize) -> io::Result<()> {
     if 1023 < row {
-        return;
+        return Ok(());
     }
     let at = 36 + row * 20;
     if book.len() < at + 20 {
-        return;
+        return Ok(());
     }
-    print_text(b" |");
-    print_number(Shares::from_bits(fields::get(book, at, 4)));
-    print_number(Shares::from_bits(fields::get(book, at + 4, 8)));
-    print_number(Shares::from_bits(fields::get(book, at + 12, 8)));
+    print_text(rt, b" |")?;
+    print_number(rt, Shares::from_bits(fields::get(book, at, 4)))?;
+    print_number(rt, Shares::from_bits(fields::get(book, at + 4, 8)))?;
+    print_number(rt, Shares::from_bits(fields::get(book, at + 12, 8)))
 }
 
-fn show_charge(book: &[u8], entry: usize) {
+fn show_charge(rt: &impl Print, book: &[u8], entry: usize) -> io::Result<()> {
     if 255 < entry {
-        return;
+        return Ok(());
     }
     let at = 36_900 + entry * 8;
     if book.len() < at + 8 {
-        return;
+        return Ok(());
     }
     let bits = fields::get(book, at, 8);
     if bits == 0 {
-        return;
+        return Ok(());
     }
-    print_text(b" / ");
-    io::print_decimal(STDOUT_FILENO, entry as u64);
-    print_number(Shares::from_bits(bits));
+    print_text(rt, b" / ")?;
+    rt.print(entry as u64)?;
+    print_number(rt, Shares::from_bits(bits))
 }
 
 // Every record of the position table.
-fn show_records(book: &[u8]) {
+fn show_records(rt: &impl Print, book: &[u8]) -> io::Result<()> {
     if book.len() < 36 {
-        return;
+        return Ok(());
     }
     let n = fields::get(book, 34, 2) as usize;
     for row in 0..n {
-        show_record(book, row);
+        show_record(rt, book, row)?;
     }
+    Ok(())
 }
 
 // Every charge but zero, with its entry (account * 4 + currency).
-fn show_charges(book: &[u8]) {
+fn show_charges(rt: &impl Print, book: &[u8]) -> io::Result<()> {
     for entry in 0..256usize {
-        show_charge(book, entry);
+        show_charge(rt, book, entry)?;
     }
+    Ok(())
 }
 
-pub fn show_all(book: &[u8]) {
-    show_records(book);
-    show_charges(book);
+pub fn show_all(rt: &impl Print, book: &[u8]) -> io::Result<()> {
+    show_records(rt, book)?;
+    show_charges(rt, book)
 }
 
 // Up to 14 bytes of text: their count, then they.
-pub fn say(command: &[u8; 16]) {
+pub fn say(rt: &impl Print, command: &[u8; 16]) -> io::Result<()> {
     let n = fields::get(command, 1, 1) as usize;
     if 14 < n {
-        return;
+        return Ok(());
     }
     let whole = &command[..];
-    print_text(&whole[2..2 + n]);
+    print_text(rt, &whole[2..2 + n])
 }
 
-pub fn say_whether_kept(book: &[u8], copied: &[u8]) {
+pub fn say_whether_kept(rt: &impl Print, book: &[u8], copied: &[u8]) -> io::Result<()> {
     if same(book, copied) {
-        print_text(b" kept");
-        return;
+        print_text(rt, b" kept")?;
+        return Ok(());
     }
-    print_text(b" altered");
+    print_text(rt, b" altered")
 }

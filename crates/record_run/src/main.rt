@@ -1,138 +1,142 @@
 // The calls on files and lines that the other programs do not make: a file record by record and whole, lines with a
 // tally. Standard input holds the whole example of document 01 with one byte behind it, which is a cut record; the
 // expected output (stdout) is written by hand from the rules.
-use libc::{STDIN_FILENO, STDOUT_FILENO};
+#![tactic(auto)]
+
 use lines::Counted;
 use playing::Played;
 use rules::{Line, RecordAnswer, Tally};
+use std::io;
+use std::io::{ErrorKind, Read};
 use units::{Mils, Whole};
 
-fn print_text(text: &[u8]) {
-    io::write_all(STDOUT_FILENO, text);
+fn print_text(rt: &impl Print, text: &[u8]) -> io::Result<()> {
+    rt.write_all(text)
 }
 
-fn print_number(n: u64) {
-    print_text(b" ");
-    io::print_decimal(STDOUT_FILENO, n);
+fn print_number(rt: &impl Print, n: u64) -> io::Result<()> {
+    print_text(rt, b" ")?;
+    rt.print(n)
 }
 
 // ── a file ──
 
 // A record's answer and figure; the place of the next, or 0 where nothing more is read.
-fn print_record(answer: RecordAnswer) -> u32 {
+fn print_record(rt: &impl Print, answer: RecordAnswer) -> io::Result<u32> {
     match answer {
         RecordAnswer::Answered(n, moved, next) => {
-            print_number(n as u64);
+            print_number(rt, n as u64)?;
             let size = moved.size();
-            print_number(size.0);
-            print_text(b";");
-            next
+            print_number(rt, size.0)?;
+            print_text(rt, b";")?;
+            Ok(next)
         }
         RecordAnswer::Unreadable(place) => {
-            print_text(b" 19");
-            print_number(place as u64);
-            print_text(b";");
-            0
+            print_text(rt, b" 19")?;
+            print_number(rt, place as u64)?;
+            print_text(rt, b";")?;
+            Ok(0)
         }
         RecordAnswer::Ended => {
-            print_text(b" end");
-            0
+            print_text(rt, b" end")?;
+            Ok(0)
         }
         RecordAnswer::FileRefused(n) => {
-            print_number(n as u64);
-            0
+            print_number(rt, n as u64)?;
+            Ok(0)
         }
     }
 }
 
-fn play_next(book: &mut [u8], file: &[u8], place: u32) -> u32 {
-    print_record(callfile::play_record(book, file, place))
+fn play_next(rt: &impl Print, book: &mut [u8], file: &[u8], place: u32) -> io::Result<u32> {
+    print_record(rt, callfile::play_record(book, file, place))
 }
 
 // Create, two trades, two deposits,
-fn first_five(book: &mut [u8], file: &[u8]) -> u32 {
-    let first = play_next(book, file, 1);
-    let second = play_next(book, file, first);
-    let third = play_next(book, file, second);
-    let fourth = play_next(book, file, third);
-    play_next(book, file, fourth)
+fn first_five(rt: &impl Print, book: &mut [u8], file: &[u8]) -> io::Result<u32> {
+    let first = play_next(rt, book, file, 1)?;
+    let second = play_next(rt, book, file, first)?;
+    let third = play_next(rt, book, file, second)?;
+    let fourth = play_next(rt, book, file, third)?;
+    play_next(rt, book, file, fourth)
 }
 
 // two rolls, a run, and the cut record.
-fn last_four(book: &mut [u8], file: &[u8], place: u32) {
-    let sixth = play_next(book, file, place);
-    let seventh = play_next(book, file, sixth);
-    let eighth = play_next(book, file, seventh);
-    play_next(book, file, eighth);
+fn last_four(rt: &impl Print, book: &mut [u8], file: &[u8], place: u32) -> io::Result<()> {
+    let sixth = play_next(rt, book, file, place)?;
+    let seventh = play_next(rt, book, file, sixth)?;
+    let eighth = play_next(rt, book, file, seventh)?;
+    play_next(rt, book, file, eighth)?;
+    Ok(())
 }
 
-fn record_by_record(book: &mut [u8], file: &[u8]) {
-    print_text(b"record by record");
-    let behind = first_five(book, file);
-    last_four(book, file, behind);
-    print_text(b"\n");
+fn record_by_record(rt: &impl Print, book: &mut [u8], file: &[u8]) -> io::Result<()> {
+    print_text(rt, b"record by record")?;
+    let behind = first_five(rt, book, file)?;
+    last_four(rt, book, file, behind)?;
+    print_text(rt, b"\n")
 }
 
 // 9 bytes for each answer: number 1, figure 8.
-fn print_answer(answers: &[u8], index: usize) {
+fn print_answer(rt: &impl Print, answers: &[u8], index: usize) -> io::Result<()> {
     if 8 < index {
-        return;
+        return Ok(());
     }
     let at = 9 * index;
     if answers.len() < at + 9 {
-        return;
+        return Ok(());
     }
-    print_number(fields::get(answers, at, 1));
-    print_number(fields::get(answers, at + 1, 8));
-    print_text(b";");
+    print_number(rt, fields::get(answers, at, 1))?;
+    print_number(rt, fields::get(answers, at + 1, 8))?;
+    print_text(rt, b";")
 }
 
-fn play_whole(book: &mut [u8], file: &[u8], answers: &mut [u8]) {
+fn play_whole(rt: &impl Print, book: &mut [u8], file: &[u8], answers: &mut [u8]) -> io::Result<()> {
     let played: Played = playing::play(book, file, answers);
-    print_number(played.number as u64);
-    print_number(played.size as u64);
+    print_number(rt, played.number as u64)?;
+    print_number(rt, played.size as u64)
 }
 
-fn print_last_three(answers: &[u8]) {
-    print_text(b":");
-    print_answer(answers, 6);
-    print_answer(answers, 7);
-    print_answer(answers, 8);
-    print_text(b"\n");
+fn print_last_three(rt: &impl Print, answers: &[u8]) -> io::Result<()> {
+    print_text(rt, b":")?;
+    print_answer(rt, answers, 6)?;
+    print_answer(rt, answers, 7)?;
+    print_answer(rt, answers, 8)?;
+    print_text(rt, b"\n")
 }
 
 // Into room for nine answers, and into a byte less.
-fn whole(book: &mut [u8], file: &[u8]) {
+fn whole(rt: &impl Print, book: &mut [u8], file: &[u8]) -> io::Result<()> {
     let mut answers = [0u8; 81];
     let mut short = [0u8; 80];
-    print_text(b"whole");
-    play_whole(book, file, &mut short);
-    print_text(b"; whole");
-    play_whole(book, file, &mut answers);
-    print_last_three(&answers);
+    print_text(rt, b"whole")?;
+    play_whole(rt, book, file, &mut short)?;
+    print_text(rt, b"; whole")?;
+    play_whole(rt, book, file, &mut answers)?;
+    print_last_three(rt, &answers)
 }
 
 // Both ways, on one book.
-fn both(book: &mut [u8], file: &[u8]) {
-    record_by_record(book, file);
-    whole(book, file);
+fn both(rt: &impl Print, book: &mut [u8], file: &[u8]) -> io::Result<()> {
+    record_by_record(rt, book, file)?;
+    whole(rt, book, file)
 }
 
 // ── lines with a tally ──
 
 // The answer and the tally.
-fn print_counted(c: Counted) -> Tally {
+fn print_counted(rt: &impl Print, c: Counted) -> io::Result<Tally> {
     let t = c.tally;
-    print_number(c.refusal as u64);
-    print_number(t.lines as u64);
-    print_number(t.bytes as u64);
-    print_text(b";");
-    t
+    print_number(rt, c.refusal as u64)?;
+    print_number(rt, t.lines as u64)?;
+    print_number(rt, t.bytes as u64)?;
+    print_text(rt, b";")?;
+    Ok(t)
 }
 
 // "A tally of lines and bytes is lent along": a line of 13 bytes, into room for it and into a byte less, and at the
 // tally's bounds.
-fn tallied() {
+fn tallied(rt: &impl Print) -> io::Result<()> {
     let mut buffer = [45u8; 13];
     let mut short = [45u8; 12];
     let line = Line::Charge(63, 3, Mils(Whole(-1_000)));
@@ -140,19 +144,32 @@ fn tallied() {
         lines: 999_998,
         bytes: 999_974,
     };
-    print_text(b"lines");
-    let second = print_counted(lines::put_counted(&mut buffer, line, first));
-    print_counted(lines::put_counted(&mut short, line, second));
-    let third = print_counted(lines::put_counted(&mut buffer, line, second));
-    print_counted(lines::put_counted(&mut buffer, Line::End(0), third));
-    print_text(b"\n");
-    print_text(&buffer);
+    print_text(rt, b"lines")?;
+    let second = print_counted(rt, lines::put_counted(&mut buffer, line, first))?;
+    print_counted(rt, lines::put_counted(&mut short, line, second))?;
+    let third = print_counted(rt, lines::put_counted(&mut buffer, line, second))?;
+    print_counted(rt, lines::put_counted(&mut buffer, Line::End(0), third))?;
+    print_text(rt, b"\n")?;
+    print_text(rt, &buffer)
 }
 
-fn main() {
+// Whether the room was filled; false where the input ended before, and then the rest of it is as it was.
+fn filled<R: Read>(input: &mut R, room: &mut [u8]) -> io::Result<bool> {
+    match input.read_exact(room) {
+        Ok(()) => Ok(true),
+        Err(e) => {
+            if e.kind() == ErrorKind::UnexpectedEof {
+                return Ok(false);
+            }
+            Err(e)
+        }
+    }
+}
+
+fn main(rt: HostRuntime) -> io::Result<()> {
     let mut book = [0u8; 42278];
     let mut file = [0u8; 105];
-    io::read_full(STDIN_FILENO, &mut file);
-    both(&mut book, &file);
-    tallied();
+    filled(&mut rt.stdin(), &mut file)?;
+    both(&rt, &mut book, &file)?;
+    tallied(&rt)
 }
