@@ -13,6 +13,9 @@ CRATES = {p.name for p in (ROOT / "crates").iterdir() if p.is_dir()}
 EDITS = {(p.parent.parent.name, p.stem) for p in ROOT.glob("crates/*/must-fail/*.edit")}
 DECLARED = r"^ *(?:unfoldable |abbrev |pub |record |data |ruleset )*{}(?= :| =|$)"
 missing, cited = [], set()
+WORDS = (r"^ *(?:unfoldable |abbrev |pub |record |data |ruleset )*(\S+)(?: [({][^)}]*[)}])* :", ("specs/*.antt", "proofs/*.antt"))
+CODE = (r"\b(?:fn|mod) (\w+)", ("src/**/*.rt",))
+NAMES = {name for _, name in EDITS} | {n for words, at in (WORDS, CODE) for a in at for p in ROOT.glob(f"crates/*/{a}") for n in re.findall(words, p.read_text(), re.M)}
 
 
 def declares(crate, module, name):
@@ -26,7 +29,7 @@ def is_file(token):
 
 
 def check(where, text):
-    """The citations of one cell or line; a bare name with a hyphen belongs to the module cited before it."""
+    """The citations of one cell or line; a bare name of several words behind a module is a name of it, of another one, of the code, or an edit."""
     last = None
     for token in re.findall(r"`([^`]+)`", text):
         module = re.fullmatch(r"(?:([a-z_]+)/)?([A-Z]\w*)(?:\.([\w⟦⟧·-]+))?", token)
@@ -42,8 +45,8 @@ def check(where, text):
             crate, name = re.match(r"([a-z_]+)::([a-z0-9_]+)", token).groups()
             files = [*ROOT.glob(f"crates/{crate}/src/**/*.rt"), *ROOT.glob(f"rust/{crate}/src/**/*.rs")]
             ok = any(re.search(rf"\b(fn|mod|struct|enum) {name}\b", p.read_text()) for p in files)
-        elif last and re.fullmatch(r"[a-z0-9]+(-[a-z0-9]+)+", token):
-            ok = declares(*last, token)
+        elif last and re.fullmatch(r"[a-z0-9]+(_[a-z0-9]+)+", token):
+            ok = declares(*last, token) or token in NAMES
         else:
             continue
         if not ok:

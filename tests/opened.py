@@ -3,7 +3,7 @@
 opens all but those over a book's bytes.
 
 A theorem by computation says `unfolding everything`. One about any bytes that are a certain book says `unfolding values`: there
-`bookOf bs` and `notSound bs` stay as they are, and its premises say what they are. Run this from the repository's root when a
+`book_of bs` and `not_sound bs` stay as they are, and its premises say what they are. Run this from the repository's root when a
 definition of the rules is added, renamed or removed: python3 tests/opened.py
 """
 import re
@@ -11,15 +11,15 @@ import re
 RULES = ["Words", "Bounds", "Book", "Layout", "Trades", "Sound", "Nets", "Parts", "Roll", "Run", "Prices", "Marks", "Calls", "Records", "CallFile", "Sheet", "Written"]
 BELOW = [("integers", ["Bits"]), ("fields", ["Field", "Codec"]), ("units_rounded", ["Part", "Conversion"])]
 # not opened by `values`: the book in bytes
-BYTES = ("Layout.", "Codec.", "Sound.notSound")
+BYTES = ("Layout.", "Codec.", "Sound.not_sound")
 
 
 def modules():
     for name in RULES:
-        yield f"Rattle·rules·specs.specs.{name}", f"crates/rules/specs/{name}.antt", name
+        yield f"Rattle.rules.specs.{name}", f"crates/rules/specs/{name}.antt", name
     for crate, names in BELOW:
         for name in names:
-            yield f"Rattle·{crate}.specs.{name}", f"crates/{crate}/specs/{name}.antt", name
+            yield f"Rattle.{crate}.specs.{name}", f"crates/{crate}/specs/{name}.antt", name
 
 
 def opening(name, opened):

@@ -7,6 +7,6 @@ use Rattle.rules.specs.Sheet.{sheet_of}
 abbrev pub IsFrontWritten : Option (List ℕ) → Option (List ℕ) → List ℕ → Type 0
 IsFrontWritten old new bs = (n : ℕ) × (n ≤ length bs) × Appends old new (take n bs)
 
--- some bytes of the input were read, and the output grew by a front of their sheet, and by nothing where a read failed
+-- some bytes of the input were read, and the output grew by a front of their sheet, or by nothing
 abbrev pub IsPrinted : Option (List ℕ) → Option (List ℕ) → Option (List ℕ) → Option (List ℕ) → Type 0
 IsPrinted input input' output output' = (file : List ℕ) × (failed : Bool) × Consumes input input' file × IsFrontWritten output output' (cond failed [] (sheet_of file))

@@ -26,7 +26,7 @@ fn printed<'a>(failed: bool, file: &[u8], buffer: &'a mut [u8]) -> &'a mut [u8]
     sheets::sheet_part(file, buffer)
 }
 
-// No sheet is longer than the buffer (sheet_laws/specs/Bounded), so that every sheet is printed.
+// No sheet is longer than the buffer (sheet_laws/proofs/Bounded), so that every sheet is printed.
 fn print_sheet<W: Write>(output: &mut W, failed: bool, file: &[u8]) -> bool
     ensures whole { result ≡ true → Appends (W.contents output.old) (W.contents output.new) (cond failed [] (sheet_of file.now)) }
     ensures front { IsFrontWritten (W.contents output.old) (W.contents output.new) (cond failed [] (sheet_of file.now)) }
