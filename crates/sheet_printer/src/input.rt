@@ -1,5 +1,5 @@
-// The input, read to its end or to the buffer's. (`Read::read_exact` answers the same error where the input ends early and where a
-// read fails, and says nothing then of how much it read.)
+// The input, read to its end or to the buffer's. (`Read::read_exact` says nothing of how much it read where the input ends early or
+// a read fails, and its contract does not tell the two apart.)
 ghost use Rattle.std.specs.Prelude.{◌≡◌, ◌+◌, ◌≤◌, ◌⊎◌, true, false, length, take, drop};
 ghost use Rattle.std.specs.Io.KnownBytes.{Consumes, IsAtEnd};
 ghost use Rattle.sheet_printer.specs.Counts.{IsPrefixLen};
