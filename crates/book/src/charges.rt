@@ -8,23 +8,23 @@ ghost use Rattle.rules.specs.Layout.{book_length, book_of};
 ghost use Rattle.rules.specs.Roll.{uncharged};
 ghost use Rattle.book.specs.Replacing.{Holds};
 
-use crate::layout::{CHARGE_BYTES, CHARGES, ENTRIES};
+use crate::layout::{BookBytes, CHARGE_BYTES, CHARGES, ENTRIES};
 use crate::words::word;
 use crate::zeros::put_zeros;
 use fields::put;
 use units::Mils;
 
 // One charge where it stands.
-pub fn charge_at(b: &[u8], i: usize) -> Mils
-    requires { (length b.now ≡ book_length) × (i < accounts * currencies) }
+pub fn charge_at(b: &BookBytes, i: usize) -> Mils
+    requires { (i < accounts * currencies) }
     ensures { result ≡ get_or (book_of b.now).charges i (mils (pos 0)) }
 {
     Mils::from_bits(word(b, CHARGES + i * CHARGE_BYTES))
 }
 
 // One charge is changed where it stands: every other byte is left as it was.
-pub fn put_charge(b: &mut [u8], i: usize, m: Mils)
-    requires { (length b.old ≡ book_length) × (i < accounts * currencies) }
+pub fn put_charge(b: &mut BookBytes, i: usize, m: Mils)
+    requires { (i < accounts * currencies) }
     ensures { Holds b.new (with_charges (book_of b.old) (set (book_of b.old).charges i m)) }
 {
     put(b, CHARGES + i * CHARGE_BYTES, 8, m.bits());
@@ -32,8 +32,7 @@ pub fn put_charge(b: &mut [u8], i: usize, m: Mils)
 
 // All charges are set to zero where they stand: an amount of 0 is 8 bytes of 0, and the table ends where the count of
 // trades begins.
-pub fn clear_charges(b: &mut [u8])
-    requires { length b.old ≡ book_length }
+pub fn clear_charges(b: &mut BookBytes)
     ensures { Holds b.new (uncharged (book_of b.old)) }
 {
     put_zeros(b, CHARGES, ENTRIES);

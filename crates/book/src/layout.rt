@@ -3,6 +3,9 @@
 // How many bytes a book has.
 pub const BOOK_BYTES: usize = 42_278;
 
+// The bytes of a book, sound or not.
+pub type BookBytes = [u8; BOOK_BYTES];
+
 pub const DAY: usize = 0;
 
 pub const CODES: usize = 2;

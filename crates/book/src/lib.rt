@@ -21,47 +21,42 @@ pub use codes::{code_at, codes_at, codes_of};
 use fields::{get, put};
 pub use holdings::{holding_at, put_holding};
 pub use layout::{
-    BOOK_BYTES, CHARGE_BYTES, CHARGES, CODE_BYTES, CODES, DAY, ENTRIES, HOLDING_BYTES, HOLDINGS,
-    POSITION_BYTES, POSITIONS, RECORDS,
+    BOOK_BYTES, BookBytes, CHARGE_BYTES, CHARGES, CODE_BYTES, CODES, DAY, ENTRIES, HOLDING_BYTES,
+    HOLDINGS, POSITION_BYTES, POSITIONS, RECORDS,
 };
 pub use positions::{position_at, positions_at, positions_of, put_position, put_row};
 pub use trades::{clear_list, put_list, put_trades, trade_at, trades_at, trades_of};
 pub use words::word;
 
 // The day where it stands.
-pub fn day_at(b: &[u8]) -> u16
-    requires { length b.now ≡ book_length }
+pub fn day_at(b: &BookBytes) -> u16
     ensures { result ≡ (book_of b.now).day }
 {
     get(b, DAY, 2) as u16
 }
 
 // The day is changed where it stands: every other byte is left as it was.
-pub fn put_day(b: &mut [u8], day: u16)
-    requires { length b.old ≡ book_length }
+pub fn put_day(b: &mut BookBytes, day: u16)
     ensures { Holds b.new (with_day (book_of b.old) day) }
 {
     put(b, DAY, 2, day as u64);
 }
 
 // The two counts where they stand.
-pub fn records_at(b: &[u8]) -> u16
-    requires { length b.now ≡ book_length }
+pub fn records_at(b: &BookBytes) -> u16
     ensures { result ≡ (book_of b.now).records }
 {
     get(b, RECORDS, 2) as u16
 }
 
 // The count of records is changed where it stands: every other byte is left as it was.
-pub fn put_records(b: &mut [u8], records: u16)
-    requires { length b.old ≡ book_length }
+pub fn put_records(b: &mut BookBytes, records: u16)
     ensures { Holds b.new (with_rows (book_of b.old) records (book_of b.old).positions) }
 {
     put(b, RECORDS, 2, records as u64);
 }
 
-pub fn entries_at(b: &[u8]) -> u16
-    requires { length b.now ≡ book_length }
+pub fn entries_at(b: &BookBytes) -> u16
     ensures { result ≡ (book_of b.now).entries }
 {
     get(b, ENTRIES, 2) as u16

@@ -8,7 +8,7 @@ ghost use Rattle.rules.specs.Layout.{position, book_length, book_of};
 ghost use Rattle.book.specs.Places.{positions_place};
 ghost use Rattle.book.specs.Replacing.{Holds, with_rows};
 
-use crate::layout::{POSITION_BYTES, POSITIONS};
+use crate::layout::{BookBytes, POSITION_BYTES, POSITIONS};
 use crate::words::word;
 use fields::{get, put};
 use rules::Position;
@@ -30,16 +30,15 @@ fn row_at(b: &[u8], at: usize) -> Position
 }
 
 // One row of the table where it stands, for a test that copies no table.
-pub fn position_at(b: &[u8], i: usize) -> Position
-    requires { (length b.now ≡ book_length) × (i < most_records) }
+pub fn position_at(b: &BookBytes, i: usize) -> Position
+    requires { (i < most_records) }
     ensures { result ≡ get_or (book_of b.now).positions i no_position }
 {
     row_at(b, POSITIONS + i * POSITION_BYTES)
 }
 
 // All rows, used or not: whether the unused ones are zero is a question of soundness, and a book that is lent may hold anything.
-pub fn positions_at(b: &[u8]) -> [Position; 1024]
-    requires { length b.now ≡ book_length }
+pub fn positions_at(b: &BookBytes) -> [Position; 1024]
     ensures { result ≡ read_rows position 1_024 (drop positions_place b.now) }
 {
     let none = Position {
@@ -57,8 +56,7 @@ pub fn positions_at(b: &[u8]) -> [Position; 1024]
 }
 
 // The whole table.
-pub fn positions_of(b: &[u8]) -> [Position; 1024]
-    requires { length b.now ≡ book_length }
+pub fn positions_of(b: &BookBytes) -> [Position; 1024]
     ensures { result ≡ (book_of b.now).positions }
 {
     positions_at(b)
@@ -77,8 +75,8 @@ pub fn put_row(p: Position, b: &mut [u8], at: usize)
 }
 
 // One row is changed where it stands: every other byte is left as it was.
-pub fn put_position(b: &mut [u8], i: usize, p: Position)
-    requires { (length b.old ≡ book_length) × (i < most_records) }
+pub fn put_position(b: &mut BookBytes, i: usize, p: Position)
+    requires { (i < most_records) }
     ensures { Holds b.new (with_rows (book_of b.old) (book_of b.old).records (set (book_of b.old).positions i p)) }
 {
     put_row(p, b, POSITIONS + i * POSITION_BYTES);

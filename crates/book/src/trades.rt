@@ -10,7 +10,7 @@ ghost use Rattle.rules.specs.Roll.{emptied};
 ghost use Rattle.book.specs.Changing.{with_table};
 ghost use Rattle.book.specs.Replacing.{Holds};
 
-use crate::layout::{BOOK_BYTES, ENTRIES, TRADE_BYTES, TRADES};
+use crate::layout::{BOOK_BYTES, BookBytes, ENTRIES, TRADE_BYTES, TRADES};
 use crate::zeros::put_zeros;
 use fields::{get, put, wide};
 use rules::Trade;
@@ -38,23 +38,21 @@ fn row_at(b: &[u8], at: usize) -> Trade
 }
 
 // One row of the list where it stands.
-pub fn trade_at(b: &[u8], i: usize) -> Trade
-    requires { (length b.now ≡ book_length) × (i < most_trades) }
+pub fn trade_at(b: &BookBytes, i: usize) -> Trade
+    requires { (i < most_trades) }
     ensures { result ≡ get_or (book_of b.now).trades i no_trade }
 {
     row_at(b, TRADES + i * TRADE_BYTES)
 }
 
 // The whole table, and the table with its count put in its place: every other byte is left as it was.
-pub fn trades_of(b: &[u8]) -> [Trade; 256]
-    requires { length b.now ≡ book_length }
+pub fn trades_of(b: &BookBytes) -> [Trade; 256]
     ensures { result ≡ (book_of b.now).trades }
 {
     trades_at(b)
 }
 
-pub fn put_list(b: &mut [u8], n: u16, t: [Trade; 256])
-    requires { length b.old ≡ book_length }
+pub fn put_list(b: &mut BookBytes, n: u16, t: [Trade; 256])
     ensures { b.new ≡ bytes_of (with_table (book_of b.old) n t) }
 {
     put(b, ENTRIES, 2, n as u64);
@@ -62,16 +60,14 @@ pub fn put_list(b: &mut [u8], n: u16, t: [Trade; 256])
 }
 
 // The list is emptied where it stands: its count and its table are the last bytes of the book.
-pub fn clear_list(b: &mut [u8])
-    requires { length b.old ≡ book_length }
+pub fn clear_list(b: &mut BookBytes)
     ensures { Holds b.new (emptied (book_of b.old)) }
 {
     put_zeros(b, ENTRIES, BOOK_BYTES);
 }
 
 // All rows, used or not, as in the position table.
-pub fn trades_at(b: &[u8]) -> [Trade; 256]
-    requires { length b.now ≡ book_length }
+pub fn trades_at(b: &BookBytes) -> [Trade; 256]
     ensures { result ≡ read_rows trade 256 (drop trades_place b.now) }
 {
     let none = Trade {
@@ -105,8 +101,7 @@ fn put_trade(t: Trade, b: &mut [u8], at: usize)
     put(b, at + 9, 4, price.0 as u64);
 }
 
-pub fn put_trades(t: [Trade; 256], b: &mut [u8])
-    requires { length b.old ≡ book_length }
+pub fn put_trades(t: [Trade; 256], b: &mut BookBytes)
     ensures { b.new ≡ stored b.old trades_place (write_rows trade t) }
 {
     let mut i: usize = 0;
