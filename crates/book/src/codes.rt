@@ -10,7 +10,7 @@ use fields::get;
 
 // The code of one security where it stands, and the code of each.
 pub fn code_at(b: &BookBytes, s: usize) -> u8
-    requires { (s < securities) }
+    requires { s < securities }
     ensures { result ≡ get_or (book_of b.now).currency s 0 }
 {
     get(b, CODES + s * CODE_BYTES, 1) as u8

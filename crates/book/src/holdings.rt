@@ -11,7 +11,7 @@ use fields::put;
 
 // One holding where it stands.
 pub fn holding_at(b: &BookBytes, i: usize) -> u64
-    requires { (i < accounts * securities) }
+    requires { i < accounts * securities }
     ensures { result ≡ get_or (book_of b.now).holdings i 0 }
 {
     word(b, HOLDINGS + i * HOLDING_BYTES)
@@ -19,7 +19,7 @@ pub fn holding_at(b: &BookBytes, i: usize) -> u64
 
 // The holding is changed where it stands: every other byte is left as it was.
 pub fn put_holding(b: &mut BookBytes, i: usize, v: u64)
-    requires { (i < accounts * securities) }
+    requires { i < accounts * securities }
     ensures { Holds b.new (with_holdings (book_of b.old) (set (book_of b.old).holdings i v)) }
 {
     put(b, HOLDINGS + i * HOLDING_BYTES, 8, v);

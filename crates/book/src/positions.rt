@@ -31,7 +31,7 @@ fn row_at(b: &[u8], at: usize) -> Position
 
 // One row of the table where it stands, for a test that copies no table.
 pub fn position_at(b: &BookBytes, i: usize) -> Position
-    requires { (i < most_records) }
+    requires { i < most_records }
     ensures { result ≡ get_or (book_of b.now).positions i no_position }
 {
     row_at(b, POSITIONS + i * POSITION_BYTES)
@@ -76,7 +76,7 @@ pub fn put_row(p: Position, b: &mut [u8], at: usize)
 
 // One row is changed where it stands: every other byte is left as it was.
 pub fn put_position(b: &mut BookBytes, i: usize, p: Position)
-    requires { (i < most_records) }
+    requires { i < most_records }
     ensures { Holds b.new (with_rows (book_of b.old) (book_of b.old).records (set (book_of b.old).positions i p)) }
 {
     put_row(p, b, POSITIONS + i * POSITION_BYTES);

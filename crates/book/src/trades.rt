@@ -39,7 +39,7 @@ fn row_at(b: &[u8], at: usize) -> Trade
 
 // One row of the list where it stands.
 pub fn trade_at(b: &BookBytes, i: usize) -> Trade
-    requires { (i < most_trades) }
+    requires { i < most_trades }
     ensures { result ≡ get_or (book_of b.now).trades i no_trade }
 {
     row_at(b, TRADES + i * TRADE_BYTES)

@@ -5,12 +5,11 @@ ghost use Rattle.fields.specs.Codec.{read_rows, write_rows};
 ghost use Rattle.rules.specs.Layout.{amount, book_length};
 ghost use Rattle.book.specs.Places.{charges_place};
 
-use book::{CHARGE_BYTES, CHARGES, word};
+use book::{BookBytes, CHARGE_BYTES, CHARGES, word};
 use fields::put;
 use units::{Mils, Whole};
 
-pub(crate) fn charges_at(b: &[u8]) -> [Mils; 256]
-    requires { length b.now ≡ book_length }
+pub(crate) fn charges_at(b: &BookBytes) -> [Mils; 256]
     ensures { result ≡ read_rows amount 256 (drop charges_place b.now) }
 {
     let none = Mils(Whole(0));
@@ -23,8 +22,7 @@ pub(crate) fn charges_at(b: &[u8]) -> [Mils; 256]
     t
 }
 
-pub(crate) fn put_charges(t: [Mils; 256], b: &mut [u8])
-    requires { length b.old ≡ book_length }
+pub(crate) fn put_charges(t: [Mils; 256], b: &mut BookBytes)
     ensures { b.new ≡ stored b.old charges_place (write_rows amount t) }
 {
     let mut i: usize = 0;

@@ -5,11 +5,10 @@ ghost use Rattle.fields.specs.Codec.{number, write_rows};
 ghost use Rattle.rules.specs.Layout.{book_length};
 ghost use Rattle.book.specs.Places.{codes_place};
 
-use book::{CODE_BYTES, CODES};
+use book::{BookBytes, CODE_BYTES, CODES};
 use fields::{put, wide};
 
-pub(crate) fn put_codes(t: [u8; 32], b: &mut [u8])
-    requires { length b.old ≡ book_length }
+pub(crate) fn put_codes(t: [u8; 32], b: &mut BookBytes)
     ensures { b.new ≡ stored b.old codes_place (write_rows (number 1) t) }
 {
     let mut i: usize = 0;

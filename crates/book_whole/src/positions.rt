@@ -5,11 +5,10 @@ ghost use Rattle.fields.specs.Codec.{write_rows};
 ghost use Rattle.rules.specs.Layout.{position, book_length};
 ghost use Rattle.book.specs.Places.{positions_place};
 
-use book::{POSITION_BYTES, POSITIONS, put_row};
+use book::{BookBytes, POSITION_BYTES, POSITIONS, put_row};
 use rules::Position;
 
-pub(crate) fn put_positions(t: [Position; 1024], b: &mut [u8])
-    requires { length b.old ≡ book_length }
+pub(crate) fn put_positions(t: [Position; 1024], b: &mut BookBytes)
     ensures { b.new ≡ stored b.old positions_place (write_rows position t) }
 {
     let mut i: usize = 0;

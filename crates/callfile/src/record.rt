@@ -10,46 +10,44 @@ ghost use Rattle.callfile.specs.Answering.{Ready, ran_as};
 
 use book::BOOK_BYTES;
 use callfile_format::{Read, next_of, other_version, past_end, record_at};
-use rules::{RecordAnswer, RunAnswer};
+use rules::{RecordAnswer, Refusal, number_of};
 use units::{Shares, Whole};
 
 // The answer of a call that has no figure.
-fn answered(number: u8, next: u32) -> RecordAnswer
-    ensures { result ≡ Answered number (shares (pos 0)) next }
+fn answer_of(answer: Result<(), Refusal>, next: u32) -> RecordAnswer
+    ensures { result ≡ Answered (answered answer) (shares (pos 0)) next }
 {
-    RecordAnswer::Answered(number, Shares(Whole(0)), next)
+    RecordAnswer::Answered(number_of(&answer), Shares(Whole(0)), next)
 }
 
-fn ran(answer: RunAnswer, next: u32) -> RecordAnswer
-    ensures { result ≡ ran_as answer next }
+fn ran(answer: Result<Shares, Refusal>, next: u32) -> RecordAnswer
+    ensures { result ≡ ran_as (numbered answer) next }
 {
-    match answer {
-        RunAnswer::Moved(q) => RecordAnswer::Answered(0, q, next),
-        RunAnswer::RunRefused(n) => answered(n, next),
-    }
+    let moved = answer.unwrap_or(Shares(Whole(0)));
+    RecordAnswer::Answered(number_of(&answer), moved, next)
 }
 
 // What stands at the place is done, and answered.
-fn applied(book: &mut [u8], file: &[u8], place: u32, found: Read) -> RecordAnswer
+fn applied(book: &mut [u8], file: &[u8], place: u32, found: Option<Read>) -> RecordAnswer
     requires { Ready book.old file.now place × (says found (codes_at place file.now) ≡ record_at file.now place) }
     ensures { (result ≡ record_answer book.old file.now place)
         × (book.new ≡ record_bytes book.old file.now place) }
 {
-    let next = next_of(file, place);
+    let (Some(found), Some(next)) = (found, next_of(file, place)) else {
+        return RecordAnswer::Unreadable(place);
+    };
     match found {
         Read::Create => {
             let at = place as usize;
-            house::create(book, &file[at + 3..at + 35]);
-            answered(0, next)
+            answer_of(house::create(book, &file[at + 3..at + 35]), next)
         }
-        Read::Enter(t) => answered(house::enter(book, t), next),
-        Read::Amend(t) => answered(house::amend(book, t), next),
-        Read::Exclude(n) => answered(house::exclude(book, n), next),
-        Read::Roll => answered(house::roll(book), next),
-        Read::Deposit(a, s, q) => answered(house::deposit(book, a, s, q), next),
-        Read::Withdraw(a, s, q) => answered(house::withdraw(book, a, s, q), next),
+        Read::Enter(t) => answer_of(house::enter(book, t), next),
+        Read::Amend(t) => answer_of(house::amend(book, t), next),
+        Read::Exclude(n) => answer_of(house::exclude(book, n), next),
+        Read::Roll => answer_of(house::roll(book), next),
+        Read::Deposit(a, s, q) => answer_of(house::deposit(book, a, s, q), next),
+        Read::Withdraw(a, s, q) => answer_of(house::withdraw(book, a, s, q), next),
         Read::Run(s) => ran(house::run(book, s), next),
-        Read::Unreadable => RecordAnswer::Unreadable(place),
     }
 }
 

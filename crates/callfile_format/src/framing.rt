@@ -24,15 +24,15 @@ pub fn past_end(file: &[u8], place: u32) -> bool
     file.len() <= place as usize
 }
 
-// Where the record behind the one at a place begins, if that can be read.
-pub fn next_of(file: &[u8], place: u32) -> u32
+// Where the record behind the one at a place begins, if its length can be read.
+pub fn next_of(file: &[u8], place: u32) -> Option<u32>
     requires { place ≤ most_file }
-    ensures { place + 2 ≤ length file.now → result ≡ place + 2 + length_of (drop place file.now) }
+    ensures { MatchOption result (length file.now < place + 2) (λ next. (place + 2 ≤ length file.now) × (next ≡ place + 2 + length_of (drop place file.now))) }
 {
     let at = place as usize;
     if file.len() < at + 2 {
-        return 0;
+        return None;
     }
     let long = fields::get(file, at, 2) as u32;
-    place + 2 + long
+    Some(place + 2 + long)
 }

@@ -13,7 +13,7 @@ use rules::Trade;
 use sound_tables::is_code;
 use units::Price;
 
-// The codes of a create are not copied: they are the 32 bytes behind its kind.
+// A record that can be read. The codes of a create are not copied: they are the 32 bytes behind its kind.
 #[derive(Clone, Copy)]
 pub enum Read {
     Create,
@@ -24,63 +24,43 @@ pub enum Read {
     Deposit(u8, u8, u64),
     Withdraw(u8, u8, u64),
     Run(u8),
-    Unreadable,
 }
 
-// How long the body of a kind of record is, its kind byte included; 0 where there is no such kind.
-fn long_of(kind: u8) -> u64
+// How long the body of a kind of record is, its kind byte included.
+fn long_of(kind: u8) -> Option<u64>
     ensures { result ≡ long_of kind }
 {
-    if kind == 0 {
-        return 33;
+    match kind {
+        0 => Some(33),
+        1 | 2 => Some(14),
+        3 => Some(3),
+        4 => Some(1),
+        5 | 6 => Some(11),
+        7 => Some(2),
+        _ => None,
     }
-    if kind == 1 {
-        return 14;
-    }
-    if kind == 2 {
-        return 14;
-    }
-    if kind == 3 {
-        return 3;
-    }
-    if kind == 4 {
-        return 1;
-    }
-    if kind == 5 {
-        return 11;
-    }
-    if kind == 6 {
-        return 11;
-    }
-    if kind == 7 {
-        return 2;
-    }
-    0
 }
 
-// The kind of the record at a place, or 8: another kind or length, or a cut record.
-fn kind_at(file: &[u8], place: usize) -> u8
+// The byte of the kind of the record at a place; none of another kind or length, or of a cut record.
+fn kind_at(file: &[u8], place: usize) -> Option<u8>
     ensures { Found (drop place file.now) result }
 {
     let n = file.len();
-    if n < 2 {
-        return 8;
-    }
-    if n - 2 < place {
-        return 8;
+    if n < 2 || n - 2 < place {
+        return None;
     }
     let long = get(file, place, 2);
     if ((n - 2 - place) as u64) < long {
-        return 8;
+        return None;
     }
     if long == 0 {
-        return 8;
+        return None;
     }
     let kind = get(file, place + 2, 1) as u8;
-    if long_of(kind) != long {
-        return 8;
+    if long_of(kind)? != long {
+        return None;
     }
-    kind
+    Some(kind)
 }
 
 fn trade_at(file: &[u8], place: usize) -> Trade
@@ -133,47 +113,30 @@ fn codes_fit_at(file: &[u8], at: usize) -> bool
 }
 
 // At place 1 stands a create, with good codes, or nothing that can be read.
-fn first_at(file: &[u8]) -> Read
+fn first_at(file: &[u8]) -> Option<Read>
     ensures { says result (codes_at 1 file.now) ≡ record_at file.now 1 }
 {
-    let kind = kind_at(file, 1);
-    if kind != 0 {
-        return Read::Unreadable;
+    if kind_at(file, 1)? == 0 && codes_fit_at(file, 4) {
+        return Some(Read::Create);
     }
-    if codes_fit_at(file, 4) {
-        return Read::Create;
-    }
-    Read::Unreadable
+    None
 }
 
 // The record that begins at a place.
-pub fn record_at(file: &[u8], place: usize) -> Read
+pub fn record_at(file: &[u8], place: usize) -> Option<Read>
     ensures { says result (codes_at place file.now) ≡ record_at file.now place }
 {
     if place == 1 {
         return first_at(file);
     }
-    let kind = kind_at(file, place);
-    if kind == 1 {
-        return Read::Enter(trade_at(file, place));
+    match kind_at(file, place)? {
+        1 => Some(Read::Enter(trade_at(file, place))),
+        2 => Some(Read::Amend(trade_at(file, place))),
+        3 => Some(Read::Exclude(get(file, place + 3, 2) as u16)),
+        4 => Some(Read::Roll),
+        5 => Some(deposit_at(file, place)),
+        6 => Some(withdrawal_at(file, place)),
+        7 => Some(Read::Run(get(file, place + 3, 1) as u8)),
+        _ => None,
     }
-    if kind == 2 {
-        return Read::Amend(trade_at(file, place));
-    }
-    if kind == 3 {
-        return Read::Exclude(get(file, place + 3, 2) as u16);
-    }
-    if kind == 4 {
-        return Read::Roll;
-    }
-    if kind == 5 {
-        return deposit_at(file, place);
-    }
-    if kind == 6 {
-        return withdrawal_at(file, place);
-    }
-    if kind == 7 {
-        return Read::Run(get(file, place + 3, 1) as u8);
-    }
-    Read::Unreadable
 }

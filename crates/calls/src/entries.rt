@@ -4,46 +4,36 @@ ghost use Rattle.std.specs.Prelude.{◌≡◌, false};
 ghost use Rattle.rules.specs.Sound.{not_sound};
 ghost use Rattle.rules.specs.Calls.{enter, amend, exclude, answer_bytes, after_bytes};
 
-use rules::Trade;
-use trading::{
-    amend_refusal, enter_refusal, exclude_refusal, put_amended, put_entered, put_excluded,
-};
+use book::BookBytes;
+use rules::{Refusal, Trade};
+use trading::{may_amend, may_enter, may_exclude, put_amended, put_entered, put_excluded};
 
-pub fn enter(book: &mut [u8], trade: Trade) -> u8
+pub fn enter(book: &mut BookBytes, trade: Trade) -> Result<(), Refusal>
     requires { not_sound book.old ≡ false }
-    ensures { (result ≡ answer_bytes book.old (enter trade))
+    ensures { (answered result ≡ answer_bytes book.old (enter trade))
         × (book.new ≡ after_bytes book.old (enter trade)) }
 {
-    let refusal = enter_refusal(book, trade);
-    if refusal != 0 {
-        return refusal;
-    }
+    may_enter(book, trade)?;
     put_entered(book, trade);
-    0
+    Ok(())
 }
 
-pub fn amend(book: &mut [u8], trade: Trade) -> u8
+pub fn amend(book: &mut BookBytes, trade: Trade) -> Result<(), Refusal>
     requires { not_sound book.old ≡ false }
-    ensures { (result ≡ answer_bytes book.old (amend trade))
+    ensures { (answered result ≡ answer_bytes book.old (amend trade))
         × (book.new ≡ after_bytes book.old (amend trade)) }
 {
-    let refusal = amend_refusal(book, trade);
-    if refusal != 0 {
-        return refusal;
-    }
+    may_amend(book, trade)?;
     put_amended(book, trade);
-    0
+    Ok(())
 }
 
-pub fn exclude(book: &mut [u8], number: u16) -> u8
+pub fn exclude(book: &mut BookBytes, number: u16) -> Result<(), Refusal>
     requires { not_sound book.old ≡ false }
-    ensures { (result ≡ answer_bytes book.old (exclude number))
+    ensures { (answered result ≡ answer_bytes book.old (exclude number))
         × (book.new ≡ after_bytes book.old (exclude number)) }
 {
-    let refusal = exclude_refusal(book, number);
-    if refusal != 0 {
-        return refusal;
-    }
+    may_exclude(book, number)?;
     put_excluded(book, number);
-    0
+    Ok(())
 }

@@ -4,28 +4,25 @@ ghost use Rattle.std.specs.Prelude.{◌≡◌, false};
 ghost use Rattle.rules.specs.Sound.{not_sound};
 ghost use Rattle.rules.specs.Calls.{run, run_answer, after_bytes};
 
-use book::codes_of;
-use rules::RunAnswer;
-use settling::{run_refusal, with_run};
+use book::{BookBytes, codes_of};
+use rules::Refusal;
+use settling::{may_run, with_run};
 use settling_counts::deliverable_of;
 use sound_tables::bad_security;
 use units::{Quantity, Shares};
 
-pub fn run(book: &mut [u8], security: u8) -> RunAnswer
+pub fn run(book: &mut BookBytes, security: u8) -> Result<Shares, Refusal>
     requires { not_sound book.old ≡ false }
-    ensures { (result ≡ run_answer book.old security) × (book.new ≡ after_bytes book.old (run security)) }
+    ensures { (numbered result ≡ run_answer book.old security) × (book.new ≡ after_bytes book.old (run security)) }
 {
     let codes = codes_of(book);
     if bad_security(codes, security) {
-        return RunAnswer::RunRefused(3);
+        return Err(Refusal::Security);
     }
     let gives = deliverable_of(book, security);
     if gives.0 == 0 {
-        return RunAnswer::Moved(Shares::of(false, Quantity(0)));
+        return Ok(Shares::of(false, Quantity(0)));
     }
-    let refusal = run_refusal(book, security, gives);
-    if refusal != 0 {
-        return RunAnswer::RunRefused(refusal);
-    }
-    RunAnswer::Moved(with_run(book, security, gives))
+    may_run(book, security, gives)?;
+    Ok(with_run(book, security, gives))
 }

@@ -7,11 +7,12 @@ ghost use Rattle.rules.specs.Sound.{not_sound};
 ghost use Rattle.rules.specs.Calls.{roll, answer_bytes, after_bytes};
 ghost use Rattle.laws.specs.QuietRoll.{is_quiet};
 
-use book::{clear_charges, day_at, entries_at, position_at, put_day, records_at};
+use book::{BookBytes, clear_charges, day_at, entries_at, position_at, put_day, records_at};
+use rules::Refusal;
 use sound_positions::due_of;
 
 // Records ascend by due day first, so that the last one tells whether any falls due on the next day.
-pub fn is_quiet(b: &[u8]) -> bool
+pub fn is_quiet(b: &BookBytes) -> bool
     requires { not_sound b.now ≡ false }
     ensures { result ≡ is_quiet (book_of b.now) }
 {
@@ -27,15 +28,15 @@ pub fn is_quiet(b: &[u8]) -> bool
     due_of(last) < next
 }
 
-pub fn quiet_roll(b: &mut [u8]) -> u8
+pub fn quiet_roll(b: &mut BookBytes) -> Result<(), Refusal>
     requires { (not_sound b.old ≡ false) × (is_quiet (book_of b.old) ≡ true) }
-    ensures { (result ≡ answer_bytes b.old roll) × (b.new ≡ after_bytes b.old roll) }
+    ensures { (answered result ≡ answer_bytes b.old roll) × (b.new ≡ after_bytes b.old roll) }
 {
     let day = day_at(b);
     if day == 60_000 {
-        return 14;
+        return Err(Refusal::LastDay);
     }
     put_day(b, day + 1);
     clear_charges(b);
-    0
+    Ok(())
 }

@@ -4,31 +4,29 @@ ghost use Rattle.rules.specs.Sound.{not_sound};
 ghost use Rattle.rules.specs.Calls.{roll, answer_bytes, after_bytes};
 
 use crate::quiet::{is_quiet, quiet_roll};
-use book::day_at;
+use book::{BookBytes, day_at};
 use netting::{before_offset, with_nets};
 use offsetting::offset_due;
+use rules::Refusal;
 
 // Every step: nets are made in a copy of the position table, all else where it stands. Right for a quiet day too, but many
 // times slower.
-fn full_roll(book: &mut [u8]) -> u8
+fn full_roll(book: &mut BookBytes) -> Result<(), Refusal>
     requires { not_sound book.old ≡ false }
-    ensures { (result ≡ answer_bytes book.old roll) × (book.new ≡ after_bytes book.old roll) }
+    ensures { (answered result ≡ answer_bytes book.old roll) × (book.new ≡ after_bytes book.old roll) }
 {
-    let netted = with_nets(book);
-    if netted.count > 1024 {
-        return 10;
-    }
+    let netted = with_nets(book)?;
     if day_at(book) == 60_000 {
-        return 14;
+        return Err(Refusal::LastDay);
     }
     before_offset(book, netted);
     offset_due(book);
-    0
+    Ok(())
 }
 
-pub fn roll(book: &mut [u8]) -> u8
+pub fn roll(book: &mut BookBytes) -> Result<(), Refusal>
     requires { not_sound book.old ≡ false }
-    ensures { (result ≡ answer_bytes book.old roll) × (book.new ≡ after_bytes book.old roll) }
+    ensures { (answered result ≡ answer_bytes book.old roll) × (book.new ≡ after_bytes book.old roll) }
 {
     if is_quiet(book) {
         return quiet_roll(book);

@@ -4,25 +4,10 @@ ghost use Rattle.rules.specs.Bounds.{securities};
 ghost use Rattle.rules.specs.Book.{empty_book};
 ghost use Rattle.rules.specs.Calls.{create_answer, create_bytes};
 
-use book::BOOK_BYTES;
 use book_whole::store;
-use rules::{Book, Position, Trade};
+use rules::{Book, Position, Refusal, Trade};
 use sound_tables::codes_fit;
 use units::{Mils, Price, Shares, Whole};
-
-// The lent codes as a table, which is what a book holds.
-fn table_of(codes: &[u8]) -> [u8; 32]
-    requires { length codes.now ≡ securities }
-    ensures { result ≡ codes.now }
-{
-    let mut t = [0u8; 32];
-    let mut i: usize = 0;
-    while i < 32 {
-        t[i] = codes[i];
-        i += 1;
-    }
-    t
-}
 
 // Day 0 and nothing but the currency table.
 fn empty_book(codes: [u8; 32]) -> Book
@@ -55,21 +40,15 @@ fn empty_book(codes: [u8; 32]) -> Book
 }
 
 // It looks at no old byte: a new history begins, whatever stood there.
-pub fn create(book: &mut [u8], codes: &[u8]) -> u8
-    ensures { (result ≡ create_answer book.old codes.now)
+pub fn create(book: &mut [u8], codes: &[u8]) -> Result<(), Refusal>
+    ensures { (answered result ≡ create_answer book.old codes.now)
         × (book.new ≡ create_bytes book.old codes.now) }
 {
-    if book.len() != BOOK_BYTES {
-        return 18;
-    }
-    if codes.len() != 32 {
-        return 18;
-    }
-    let table = table_of(codes);
+    let room = book.as_mut_array().ok_or(Refusal::Length)?;
+    let table = *codes.as_array().ok_or(Refusal::Length)?;
     if !codes_fit(table) {
-        return 3;
+        return Err(Refusal::Security);
     }
-    let fresh = empty_book(table);
-    store(fresh, book);
-    0
+    store(empty_book(table), room);
+    Ok(())
 }

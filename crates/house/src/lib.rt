@@ -14,6 +14,3 @@ pub use marked::marks;
 pub use marking_prices::price;
 pub use settlement::{roll, run};
 pub use trades::{amend, enter, exclude};
-
-// 1: book not sound. Every call on a book asks this before all else.
-pub(crate) const UNSOUND: u8 = 1;

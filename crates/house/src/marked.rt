@@ -2,10 +2,9 @@
 ghost use Rattle.std.specs.Prelude.{◌≡◌};
 ghost use Rattle.rules.specs.Marks.{terms, marks, marks_number, marks_figures, number_of_marks, figures_of_marks};
 
-use crate::UNSOUND;
 use marking::marks_of;
-use rules::MarksAnswer;
-use soundness::not_sound;
+use rules::{Marks, Refusal};
+use soundness::sound_book;
 
 pub fn marks(
     book: &[u8],
@@ -14,13 +13,11 @@ pub fn marks(
     closing: &[u8],
     rates: &[u32],
     haircuts: &[u32],
-) -> MarksAnswer
-    ensures { (result ≡ marks book.now account (terms intraday.now closing.now rates.now haircuts.now))
-        × (number_of_marks result ≡ marks_number book.now account (terms intraday.now closing.now rates.now haircuts.now))
-        × (figures_of_marks result ≡ marks_figures book.now account (terms intraday.now closing.now rates.now haircuts.now)) }
+) -> Result<Marks, Refusal>
+    ensures { (numbered result ≡ marks book.now account (terms intraday.now closing.now rates.now haircuts.now))
+        × (number_of_marks (numbered result) ≡ marks_number book.now account (terms intraday.now closing.now rates.now haircuts.now))
+        × (figures_of_marks (numbered result) ≡ marks_figures book.now account (terms intraday.now closing.now rates.now haircuts.now)) }
 {
-    if not_sound(book) {
-        return MarksAnswer::MarksRefused(UNSOUND);
-    }
-    marks_of(book, account, intraday, closing, rates, haircuts)
+    let sound = sound_book(book).ok_or(Refusal::Unsound)?;
+    marks_of(sound, account, intraday, closing, rates, haircuts)
 }

@@ -3,28 +3,24 @@
 ghost use Rattle.std.specs.Prelude.{◌≡◌, pos};
 ghost use Rattle.rules.specs.Calls.{roll, run, answer_bytes, after_bytes, figure_bytes, run_answer, number_of_run, figure_of_run};
 
-use crate::UNSOUND;
-use rules::RunAnswer;
-use soundness::not_sound;
+use rules::Refusal;
+use soundness::sound_book_mut;
+use units::Shares;
 
-pub fn roll(book: &mut [u8]) -> u8
-    ensures { (result ≡ answer_bytes book.old roll)
+pub fn roll(book: &mut [u8]) -> Result<(), Refusal>
+    ensures { (answered result ≡ answer_bytes book.old roll)
         × (book.new ≡ after_bytes book.old roll) }
 {
-    if not_sound(book) {
-        return UNSOUND;
-    }
-    calls_rolls::roll(book)
+    let sound = sound_book_mut(book).ok_or(Refusal::Unsound)?;
+    calls_rolls::roll(sound)
 }
 
-pub fn run(book: &mut [u8], security: u8) -> RunAnswer
-    ensures { (result ≡ run_answer book.old security)
+pub fn run(book: &mut [u8], security: u8) -> Result<Shares, Refusal>
+    ensures { (numbered result ≡ run_answer book.old security)
         × (book.new ≡ after_bytes book.old (run security))
-        × (number_of_run result ≡ answer_bytes book.old (run security))
-        × (figure_of_run result ≡ pos (figure_bytes book.old (run security))) }
+        × (number_of_run (numbered result) ≡ answer_bytes book.old (run security))
+        × (figure_of_run (numbered result) ≡ pos (figure_bytes book.old (run security))) }
 {
-    if not_sound(book) {
-        return RunAnswer::RunRefused(UNSOUND);
-    }
-    calls::run(book, security)
+    let sound = sound_book_mut(book).ok_or(Refusal::Unsound)?;
+    calls::run(sound, security)
 }

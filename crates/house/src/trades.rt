@@ -2,36 +2,29 @@
 ghost use Rattle.std.specs.Prelude.{◌≡◌};
 ghost use Rattle.rules.specs.Calls.{enter, amend, exclude, answer_bytes, after_bytes};
 
-use crate::UNSOUND;
-use rules::Trade;
-use soundness::not_sound;
+use rules::{Refusal, Trade};
+use soundness::sound_book_mut;
 
-pub fn enter(book: &mut [u8], trade: Trade) -> u8
-    ensures { (result ≡ answer_bytes book.old (enter trade))
+pub fn enter(book: &mut [u8], trade: Trade) -> Result<(), Refusal>
+    ensures { (answered result ≡ answer_bytes book.old (enter trade))
         × (book.new ≡ after_bytes book.old (enter trade)) }
 {
-    if not_sound(book) {
-        return UNSOUND;
-    }
-    calls::enter(book, trade)
+    let sound = sound_book_mut(book).ok_or(Refusal::Unsound)?;
+    calls::enter(sound, trade)
 }
 
-pub fn amend(book: &mut [u8], trade: Trade) -> u8
-    ensures { (result ≡ answer_bytes book.old (amend trade))
+pub fn amend(book: &mut [u8], trade: Trade) -> Result<(), Refusal>
+    ensures { (answered result ≡ answer_bytes book.old (amend trade))
         × (book.new ≡ after_bytes book.old (amend trade)) }
 {
-    if not_sound(book) {
-        return UNSOUND;
-    }
-    calls::amend(book, trade)
+    let sound = sound_book_mut(book).ok_or(Refusal::Unsound)?;
+    calls::amend(sound, trade)
 }
 
-pub fn exclude(book: &mut [u8], number: u16) -> u8
-    ensures { (result ≡ answer_bytes book.old (exclude number))
+pub fn exclude(book: &mut [u8], number: u16) -> Result<(), Refusal>
+    ensures { (answered result ≡ answer_bytes book.old (exclude number))
         × (book.new ≡ after_bytes book.old (exclude number)) }
 {
-    if not_sound(book) {
-        return UNSOUND;
-    }
-    calls::exclude(book, number)
+    let sound = sound_book_mut(book).ok_or(Refusal::Unsound)?;
+    calls::exclude(sound, number)
 }

@@ -1,6 +1,6 @@
 -- Answers that are enums: the definitions that give this paper's number and values for each of their cases, at what the calls answer (document 01, "Forms for
 -- parts of the code": "Where an answer is an enum, a definition gives this paper's number and values for each of its cases. The promises use this definition.").
-use Rattle.std.specs.Prelude.{◌≡◌, true, false, List, [], ◌∷◌, ◌≢◌, ℕ, ◌+◌, ◌-◌, eqb, drop, pos}
+use Rattle.std.specs.Prelude.{◌≡◌, true, false, List, [], ◌∷◌, ◌≢◌, ℕ, ◌+◌, ◌-◌, eqb, drop, pos, Result}
 use Rattle.std.proofs.Math.Path.{refl, sym, ap}
 use Rattle.std.proofs.Common.{◌∙◌, eqb-true, eq-eqb, ne_eqb}
 use Rattle.rules.specs.Book.{empty_book}
@@ -9,8 +9,8 @@ use Rattle.rules.specs.Run.{shares_moved}
 use Rattle.rules.specs.Calls.{Call, run, figure, answer_bytes, figure_bytes, after_bytes, run_answer, number_of_run, figure_of_run}
 use Rattle.rules.specs.Marks.{Terms, marked_of, sum_of, favourable_total, unfavourable_total, due_and_sums, marks_number, marks, marks_figures, number_of_marks, figures_of_marks}
 use Rattle.rules.specs.Records.{Record, create, call, unreadable, length_of, record_at, other_version, file_refused, past_end, answer_to, record_answer, bytes_after, applies, record_bytes, number_of_record, figure_of_record, next_of_record, number_at, record_number, figure_at, record_figure, next_at, record_next}
-use Rattle.rules.specs.declared.RunAnswer.{RunAnswer}
-use Rattle.rules.specs.declared.MarksAnswer.{MarksAnswer}
+use Rattle.units.specs.declared.Shares.{Shares}
+use Rattle.rules.specs.declared.Marks.{Marks}
 use Rattle.rules.specs.declared.RecordAnswer.{RecordAnswer}
 use Rattle.laws.specs.Cases.{by_test, true_false, cond_yes, cond_no}
 
@@ -26,7 +26,7 @@ module _ (bs : List ℕ) (s : ℕ) where
   run_figure = by_test (eqb (answer_bytes bs (run s)) 0) (λ y. rw y) (λ n. rw n)
 
   -- so of every answer that is the run's
-  pub run_told : (r : RunAnswer) → r ≡ run_answer bs s → (number_of_run r ≡ answer_bytes bs (run s)) × (figure_of_run r ≡ pos (figure_bytes bs (run s)))
+  pub run_told : (r : Result Shares ℕ) → r ≡ run_answer bs s → (number_of_run r ≡ answer_bytes bs (run s)) × (figure_of_run r ≡ pos (figure_bytes bs (run s)))
   run_told r e = (ap number_of_run e ∙ run_number, ap figure_of_run e ∙ run_figure)
 
   pub run_moved : answer_bytes bs (run s) ≡ 0 → figure_of_run (run_answer bs s) ≡ pos (shares_moved (book_of bs) s)
@@ -54,7 +54,7 @@ module _ (bs : List ℕ) (a : ℕ) (t : Terms) where
   unfolding marks figures_of_marks
   marks_none n = rw (ne_eqb (marks_number bs a t) 0 n)
 
-  pub marks_told : (r : MarksAnswer) → r ≡ marks bs a t → (number_of_marks r ≡ marks_number bs a t) × (figures_of_marks r ≡ marks_figures bs a t)
+  pub marks_told : (r : Result Marks ℕ) → r ≡ marks bs a t → (number_of_marks r ≡ marks_number bs a t) × (figures_of_marks r ≡ marks_figures bs a t)
   unfolding marks_figures
   marks_told r e = (
     ap number_of_marks e ∙ marks_number_lem,

@@ -1,6 +1,6 @@
 -- Calls over lent bytes: creation, a deposit, refusals that keep every byte, the records of the example one by one, the price question's part. Most are about any
 -- bytes that are a sound book, and that book: `not_sound bs ≡ false` and `book_of bs ≡ k`; or about any bytes of a book's length.
-use Rattle.std.specs.Prelude.{◌≡◌, refl, false, List, [], ◌∷◌, ◌++◌, ℕ, length, replicate, take, drop, pos}
+use Rattle.std.specs.Prelude.{◌≡◌, refl, false, List, [], ◌∷◌, ◌++◌, ℕ, length, replicate, take, drop, pos, Ok, Err}
 use Rattle.units.specs.Units.{shares}
 use Rattle.rules.specs.Book.{empty_book}
 use Rattle.rules.specs.Layout.{book_of, bytes_of}
@@ -12,7 +12,6 @@ use Rattle.rules.specs.Example.{example}
 use Rattle.rules.specs.Opened.{everything, values}
 use Rattle.rules.specs.Written.{hex, created, book_with}
 use Rattle.rules.specs.declared.Book.{Book}
-use Rattle.rules.specs.declared.RunAnswer.TheVariants.{Moved, RunRefused}
 use Rattle.rules.specs.declared.RecordAnswer.{RecordAnswer}
 use Rattle.rules.specs.declared.RecordAnswer.TheVariants.{Answered, Unreadable, Ended, FileRefused}
 
@@ -69,11 +68,11 @@ kept bs s b = rw (after_bytes, answer_bytes, b, s)
 
 -- ── a run answers the shares moved, 0 included ──
 
-nothing_moves : IsBook empty (λ bs. run_answer bs 0 ≡ Moved (shares (pos 0)))
+nothing_moves : IsBook empty (λ bs. run_answer bs 0 ≡ Ok (shares (pos 0)))
 unfolding values empty
 nothing_moves bs s b = rw (run_answer, figure_bytes, answer_bytes, b, s)
 
-unlisted : IsBook empty (λ bs. run_answer bs 1 ≡ RunRefused 3)
+unlisted : IsBook empty (λ bs. run_answer bs 1 ≡ Err 3)
 unfolding values empty
 unlisted bs s b = rw (run_answer, figure_bytes, answer_bytes, b, s)
 

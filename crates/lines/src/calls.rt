@@ -2,23 +2,19 @@
 ghost use Rattle.std.specs.Prelude.{◌≡◌, length};
 ghost use Rattle.rules.specs.Sheet.{line_answer, line_part, line_spot, line_bytes, line_tally};
 
-use crate::Counted;
 use crate::counting::count_line;
 use lines_text::put_line;
-use rules::{Line, Tally};
+use rules::{Line, Refusal, Tally, number_of};
 
 // The line at the front of the buffer, the tally by value: answer, tally and every byte. A refused line alters nothing.
-pub fn put_counted(buffer: &mut [u8], l: Line, tally: Tally) -> Counted
-    ensures { (result.refusal ≡ line_answer (length buffer.old) l tally)
-        × (result.tally ≡ line_tally (length buffer.old) l tally)
+pub fn put_counted(buffer: &mut [u8], l: Line, tally: Tally) -> Result<Tally, Refusal>
+    ensures { (answered result ≡ line_answer (length buffer.old) l tally)
+        × (value_or tally result ≡ line_tally (length buffer.old) l tally)
         × (buffer.new ≡ line_bytes buffer.old l tally) }
 {
-    let c = count_line(buffer.len(), l, tally);
-    if c.refusal != 0 {
-        return c;
-    }
+    let next = count_line(buffer.len(), l, tally)?;
     put_line(buffer, 0, l);
-    c
+    Ok(next)
 }
 
 // The same with the part handed back: the bytes that the tally moved on by, from the front of the buffer.
@@ -27,9 +23,9 @@ pub fn line_part<'a>(buffer: &'a mut [u8], l: Line, tally: Tally, refusal: &mut 
         × (result.ref_ptr ≡ line_spot buffer.entry.ref_ptr)
         × (refusal.new ≡ line_answer (length buffer.old) l tally) }
 {
-    let c = put_counted(buffer, l, tally);
-    *refusal = c.refusal;
-    let next = c.tally;
+    let counted = put_counted(buffer, l, tally);
+    *refusal = number_of(&counted);
+    let next = counted.unwrap_or(tally);
     let size = (next.bytes - tally.bytes) as usize;
     &mut buffer[..size]
 }
@@ -47,7 +43,6 @@ pub fn write_line<'a>(
         × (refusal.new ≡ line_answer (length buffer.old) l tally.old) }
 {
     let before = *tally;
-    let c = count_line(buffer.len(), l, before);
-    *tally = c.tally;
+    *tally = count_line(buffer.len(), l, before).unwrap_or(before);
     line_part(buffer, l, before, refusal)
 }

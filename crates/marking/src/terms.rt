@@ -8,6 +8,7 @@ ghost use Rattle.marking.specs.SoundMarks.{terms_tests};
 ghost use Rattle.marking.specs.Passing.{rated};
 
 use marking_prices::{prices_above, wrong_tables};
+use rules::Refusal;
 
 fn is_outside(rate: u32) -> bool
     ensures { result ≡ outside 1 top_rate rate }
@@ -64,26 +65,26 @@ fn wrong_terms(intraday: &[u8], closing: &[u8], rates: &[u32], haircuts: &[u32])
     rates.len() != 4 || haircuts.len() != 4
 }
 
-pub fn terms_refusal(
+pub fn terms_fit(
     account: u8,
     intraday: &[u8],
     closing: &[u8],
     rates: &[u32],
     haircuts: &[u32],
-) -> u8
-    ensures { result ≡ first (terms_tests account (terms intraday.now closing.now rates.now haircuts.now) []) }
+) -> Result<(), Refusal>
+    ensures { answered result ≡ first (terms_tests account (terms intraday.now closing.now rates.now haircuts.now) []) }
 {
     if account > 63 {
-        return 2;
+        return Err(Refusal::Account);
     }
     if wrong_terms(intraday, closing, rates, haircuts) {
-        return 18;
+        return Err(Refusal::Length);
     }
     if prices_above(intraday, closing) {
-        return 5;
+        return Err(Refusal::Price);
     }
     if bad_rates(rates, haircuts) {
-        return 15;
+        return Err(Refusal::Rates);
     }
-    0
+    Ok(())
 }

@@ -8,7 +8,7 @@ ghost use Rattle.rules.specs.Marks.{lacks_price, marked_of};
 ghost use Rattle.marking_prices.specs.Pricing.{Tables};
 ghost use Rattle.marking_sums.specs.Summing.{priced};
 
-use book::{position_at, records_at};
+use book::{BookBytes, position_at, records_at};
 use marking_prices::price_of;
 use rules::Position;
 use sound_positions::{account_of, security_of};
@@ -41,8 +41,8 @@ fn is_unpriced(p: Position, account: usize, intraday: &[u8], closing: &[u8]) -> 
 }
 
 // The account's records, each read where it stands.
-pub fn has_unpriced(book: &[u8], account: usize, intraday: &[u8], closing: &[u8]) -> bool
-    requires { (length book.now ≡ book_length) × ((book_of book.now).records ≤ most_records) × Tables intraday.now closing.now }
+pub fn has_unpriced(book: &BookBytes, account: usize, intraday: &[u8], closing: &[u8]) -> bool
+    requires { ((book_of book.now).records ≤ most_records) × Tables intraday.now closing.now }
     ensures { result ≡ any (lacks_price (priced intraday.now closing.now)) (marked_of (book_of book.now) account) }
 {
     let n = records_at(book) as usize;

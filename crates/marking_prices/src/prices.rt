@@ -5,6 +5,7 @@ ghost use Rattle.std.specs.Prelude.{◌≡◌, ◌||◌, ◌<◌, length};
 ghost use Rattle.rules.specs.Prices.{entry_of, wrong_table, entry_above, price_of, price_answer, price_part, price_spot};
 ghost use Rattle.marking_prices.specs.Pricing.{Tables};
 
+use rules::Refusal;
 use units::Price;
 
 // The entry of a security.
@@ -57,24 +58,24 @@ pub fn wrong_tables(intraday: &[u8], closing: &[u8]) -> bool
     intraday.len() != 128 || closing.len() != 128
 }
 
-// What the question is answered with: 0, or 18, 3, 5 or 17.
-fn price_refusal(intraday: &[u8], closing: &[u8], security: u8) -> u8
-    ensures { result ≡ price_answer intraday.now closing.now security }
+// Whether the question is answered: 18, 3, 5 or 17 where it is not.
+fn may_ask(intraday: &[u8], closing: &[u8], security: u8) -> Result<(), Refusal>
+    ensures { answered result ≡ price_answer intraday.now closing.now security }
 {
     if wrong_tables(intraday, closing) {
-        return 18;
+        return Err(Refusal::Length);
     }
     if security > 31 {
-        return 3;
+        return Err(Refusal::Security);
     }
     if prices_above(intraday, closing) {
-        return 5;
+        return Err(Refusal::Price);
     }
     let found = price_of(intraday, closing, security as usize);
     if found.0 == 0 {
-        return 17;
+        return Err(Refusal::NoPrice);
     }
-    0
+    Ok(())
 }
 
 // The entry of the table used, as it stands there; an empty part where the question is refused.
@@ -83,11 +84,11 @@ pub fn price<'a>(intraday: &'a [u8], closing: &'a [u8], security: u8, refusal: &
         × (refusal.new ≡ price_answer intraday.now closing.now security)
         × (result.ref_ptr ≡ price_spot intraday.now closing.now security intraday.entry.ref_ptr closing.entry.ref_ptr) }
 {
-    let fault = price_refusal(intraday, closing, security);
-    *refusal = fault;
-    if fault != 0 {
+    if let Err(r) = may_ask(intraday, closing, security) {
+        *refusal = r.into();
         return &intraday[0..0];
     }
+    *refusal = 0;
     let s = security as usize;
     let at = s * 4;
     let end = at + 4;

@@ -9,39 +9,31 @@ ghost use Rattle.units_rounded.specs.ConversionLaws.{Terms};
 ghost use Rattle.marking_sums.specs.Converting.{together, favourable_sum, unfavourable_sum, Rates};
 
 use crate::marks::PerCurrency;
-use exact::Rounded;
 use units::{Amount, Mils};
 use units_rounded::{favourable, unfavourable};
 
 const LIMIT: u64 = 9_000_000_000_000_000_000;
 
 // The sum of two amounts, or that it passes the limit: found by differences, so that nothing wraps.
-fn capped_sum(x: Amount, y: Amount) -> Rounded
+fn capped_sum(x: Amount, y: Amount) -> Option<u64>
     ensures { result ≡ capped (x.0 + y.0) }
 {
     if x.0 > LIMIT {
-        return Rounded::Past;
+        return None;
     }
     if y.0 > LIMIT - x.0 {
-        return Rounded::Past;
+        return None;
     }
-    let sum = x.0 + y.0;
-    Rounded::To(sum)
+    Some(x.0 + y.0)
 }
 
-fn sum_of(a: Rounded, b: Rounded) -> Rounded
+fn sum_of(a: Option<u64>, b: Option<u64>) -> Option<u64>
     ensures { result ≡ together a b }
 {
-    match a {
-        Rounded::Past => Rounded::Past,
-        Rounded::To(x) => match b {
-            Rounded::Past => Rounded::Past,
-            Rounded::To(y) => capped_sum(Amount(x), Amount(y)),
-        },
-    }
+    capped_sum(Amount(a?), Amount(b?))
 }
 
-fn favourable_at(sum: Mils, rates: &[u32], haircuts: &[u32], c: usize) -> Rounded
+fn favourable_at(sum: Mils, rates: &[u32], haircuts: &[u32], c: usize) -> Option<u64>
     requires { (c < length rates.now) × (c < length haircuts.now) × Terms (get_or rates.now c 0) (get_or haircuts.now c 0) }
     ensures { result ≡ capped (favourable_of (mils_of sum) (get_or rates.now c 0) (get_or haircuts.now c 0)) }
 {
@@ -50,7 +42,7 @@ fn favourable_at(sum: Mils, rates: &[u32], haircuts: &[u32], c: usize) -> Rounde
     favourable(sum, rate, haircut)
 }
 
-fn unfavourable_at(sum: Mils, rates: &[u32], haircuts: &[u32], c: usize) -> Rounded
+fn unfavourable_at(sum: Mils, rates: &[u32], haircuts: &[u32], c: usize) -> Option<u64>
     requires { (c < length rates.now) × (c < length haircuts.now) × Terms (get_or rates.now c 0) (get_or haircuts.now c 0) }
     ensures { result ≡ capped (unfavourable_of (mils_of sum) (get_or rates.now c 0) (get_or haircuts.now c 0)) }
 {
@@ -59,11 +51,11 @@ fn unfavourable_at(sum: Mils, rates: &[u32], haircuts: &[u32], c: usize) -> Roun
     unfavourable(sum, rate, haircut)
 }
 
-pub fn favourable_total(t: PerCurrency, rates: &[u32], haircuts: &[u32]) -> Rounded
+pub fn favourable_total(t: PerCurrency, rates: &[u32], haircuts: &[u32]) -> Option<u64>
     requires { Rates rates.now haircuts.now }
     ensures { result ≡ capped (favourable_sum t.sums rates.now haircuts.now) }
 {
-    let mut total = Rounded::To(0);
+    let mut total = Some(0);
     let mut c: usize = 0;
     while c < 4 {
         let sum = t.sums[c];
@@ -73,11 +65,11 @@ pub fn favourable_total(t: PerCurrency, rates: &[u32], haircuts: &[u32]) -> Roun
     total
 }
 
-pub fn unfavourable_total(t: PerCurrency, rates: &[u32], haircuts: &[u32]) -> Rounded
+pub fn unfavourable_total(t: PerCurrency, rates: &[u32], haircuts: &[u32]) -> Option<u64>
     requires { Rates rates.now haircuts.now }
     ensures { result ≡ capped (unfavourable_sum t.sums rates.now haircuts.now) }
 {
-    let mut total = Rounded::To(0);
+    let mut total = Some(0);
     let mut c: usize = 0;
     while c < 4 {
         let sum = t.sums[c];

@@ -11,7 +11,7 @@ ghost use Rattle.laws.specs.Charging.{amount_at};
 ghost use Rattle.marking_prices.specs.Pricing.{Fair};
 ghost use Rattle.marking_sums.specs.Summing.{priced, most_mark, with_mark, MarkAsks};
 
-use book::{codes_of, position_at, records_at};
+use book::{BookBytes, codes_of, position_at, records_at};
 use marking_prices::price_of;
 use rules::Position;
 use sound_positions::{account_of, security_of};
@@ -70,8 +70,8 @@ fn with_record(
 }
 
 // In one pass over the records, each read where it stands.
-pub fn sums_of(book: &[u8], account: usize, intraday: &[u8], closing: &[u8]) -> PerCurrency
-    requires { (length book.now ≡ book_length) × (sound (book_of book.now) ≡ true) × Fair intraday.now closing.now }
+pub fn sums_of(book: &BookBytes, account: usize, intraday: &[u8], closing: &[u8]) -> PerCurrency
+    requires { (sound (book_of book.now) ≡ true) × Fair intraday.now closing.now }
     ensures { (c : ℕ) → amount_at result.sums c ≡ sum_of (book_of book.now) (priced intraday.now closing.now) (marked_of (book_of book.now) account) c }
 {
     let codes = codes_of(book);

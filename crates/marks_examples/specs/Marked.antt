@@ -1,5 +1,5 @@
 -- Marks: source document 001, 10.10.4 and 10.10.6, and the limit of refusal 16 at and past it, on any bytes that are a sound book, and that book.
-use Rattle.std.specs.Prelude.{◌≡◌, refl, true, List, [], ◌∷◌, ◌++◌, map, ℕ, replicate, ℤ, pos, neg_ℤ}
+use Rattle.std.specs.Prelude.{◌≡◌, refl, true, List, [], ◌∷◌, ◌++◌, map, ℕ, replicate, ℤ, pos, neg_ℤ, Err}
 use Rattle.rules.specs.Words.{each, from}
 use Rattle.rules.specs.Book.{with_open, with_day}
 use Rattle.rules.specs.Layout.{bytes_of}
@@ -9,7 +9,6 @@ use Rattle.rules.specs.Opened.{everything, values}
 use Rattle.rules.specs.Written.{at, book_with}
 use Rattle.rules.specs.MarkReadings.{IsAnswered, due, none, rates, haircuts, delivery, owing, crowded}
 use Rattle.rules.specs.declared.Book.{Book}
-use Rattle.rules.specs.declared.MarksAnswer.TheVariants.{MarksRefused}
 
 -- ── 10.10.4: securities 0 and 1 in the base, 2 and 3 in currency 1 at 7.8 with a haircut of 0.5 % ──
 
@@ -76,7 +75,7 @@ at_the_limit : IsAnswered (heavy (pos 2_500_000_000_000_000)) 1 (highest 10_000 
 unfolding values heavy
 at_the_limit bs h b = rw (marks, marks_number, marks_tests, b, h)
 
-past_it : IsAnswered (heavy (pos 2_500_000_000_000_001)) 1 (highest 10_000 none) (MarksRefused 16)
+past_it : IsAnswered (heavy (pos 2_500_000_000_000_001)) 1 (highest 10_000 none) (Err 16)
 unfolding values heavy
 past_it bs h b = rw (marks, marks_number, marks_tests, b, h)
 
@@ -88,7 +87,7 @@ priceless =
     (map (λ s. at 1 1 s (pos 0) (pos 2_500_000_000_000_000)) (from 1 17)
     ++ (at 1 1 18 (pos 1) (pos 0) ∷ at 1 2 18 (neg_ℤ (pos 1)) (pos 0) ∷ [])))
 
-seventeen_first : IsAnswered priceless 1 (highest 10_000 none) (MarksRefused 17)
+seventeen_first : IsAnswered priceless 1 (highest 10_000 none) (Err 17)
 unfolding values priceless
 seventeen_first bs h b = rw (marks, marks_number, marks_tests, b, h)
 
@@ -104,7 +103,7 @@ gains =
 abbrev top_prices : List ℕ
 top_prices = each (λ s. 0 ∷ 152 ∷ 150 ∷ 127 ∷ []) (from 0 18) ++ replicate 56 0
 
-too_favourable : IsAnswered gains 1 (highest 0 top_prices) (MarksRefused 16)
+too_favourable : IsAnswered gains 1 (highest 0 top_prices) (Err 16)
 unfolding values gains
 too_favourable bs h b = rw (marks, marks_number, marks_tests, b, h)
 

@@ -23,7 +23,11 @@ use Rattle.netting.specs.Pairs.{pair_net, nets_to, nets_to_none, nets_to_more, n
 
 -- what the walk gives: how many records open positions and nets make, one too many where they do not fit; where they fit, the table with both
 abbrev pub WithNets : Book → ℕ → List Position → Type 0
-WithNets k count rows = (count ≡ min (open_plus_nets k) (most_records + 1)) × (open_plus_nets k ≤ most_records → rows ≡ (rolling k).positions)
+WithNets k count rows = (open_plus_nets k ≤ most_records) × (count ≡ open_plus_nets k) × (rows ≡ (rolling k).positions)
+
+-- the table has no room for them: refusal 10
+abbrev pub PastRoom : Book → ℕ → Type 0
+PastRoom k number = (most_records < open_plus_nets k) × (number ≡ 10)
 
 -- ── the table after the first i pairs ──
 

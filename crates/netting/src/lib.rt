@@ -9,8 +9,7 @@ pub use nets::with_nets;
 use rules::Position;
 pub use steps::before_offset;
 
-// The position table with today's nets behind the open positions, and how many records that makes: 1,025 where it makes
-// more than the table has rows. Then only the count is of use: refusal 10 goes by it.
+// The position table with today's nets behind the open positions, and how many records that makes.
 #[derive(Drop)]
 pub struct Netted {
     pub count: u16,

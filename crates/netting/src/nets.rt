@@ -5,9 +5,9 @@ ghost use Rattle.rules.specs.Sound.{sound, is_position};
 ghost use Rattle.netting.specs.Filling.{WithNets};
 
 use crate::Netted;
-use book::{day_at, entries_at, positions_of, records_at, trades_of};
+use book::{BookBytes, day_at, entries_at, positions_of, records_at, trades_of};
 use netting_account::{account_nets, named_accounts, next_named};
-use rules::Position;
+use rules::{Position, Refusal};
 
 // "A net of 0 shares with money is a position; 0 and 0 is none."
 fn is_position(p: Position) -> bool
@@ -24,9 +24,9 @@ fn is_position(p: Position) -> bool
 // By account, then security: by ascending number, as the records stand. One walk of the list finds
 // the accounts that it names, and one for each of them gives its nets. The first net for which there is no row ends it:
 // the roll is refused by 10.
-pub fn with_nets(b: &[u8]) -> Netted
-    requires { (length b.now ≡ book_length) × (sound (book_of b.now) ≡ true) }
-    ensures { WithNets (book_of b.now) result.count result.positions }
+pub fn with_nets(b: &BookBytes) -> Result<Netted, Refusal>
+    requires { sound (book_of b.now) ≡ true }
+    ensures { MatchResult result (λ t. WithNets (book_of b.now) t.count t.positions) (λ r. PastRoom (book_of b.now) (number_of r)) }
 {
     let trades = trades_of(b);
     let n = entries_at(b) as usize;
@@ -45,19 +45,15 @@ pub fn with_nets(b: &[u8]) -> Netted
                 continue;
             }
             if count == 1024 {
-                return Netted {
-                    count: 1025,
-                    positions: positions,
-                };
+                return Err(Refusal::TableFull);
             }
             positions[count] = net;
             count += 1;
         }
         account = next_named(named, account + 1);
     }
-    let total = count as u16;
-    Netted {
-        count: total,
-        positions: positions,
-    }
+    Ok(Netted {
+        count: count as u16,
+        positions,
+    })
 }

@@ -10,11 +10,13 @@ ghost use Rattle.book.specs.Replacing.{with_rows};
 ghost use Rattle.netting.specs.Before.{Extends};
 
 use crate::Netted;
-use book::{clear_charges, clear_list, day_at, put_day, put_position, put_records, records_at};
+use book::{
+    BookBytes, clear_charges, clear_list, day_at, put_day, put_position, put_records, records_at,
+};
 
 // The nets are put into the rows behind the open positions; in all other rows the table handed over is the book's.
-fn put_nets(b: &mut [u8], t: Netted)
-    requires { (length b.old ≡ book_length) × Extends (book_of b.old).records (book_of b.old).positions t.count t.positions }
+fn put_nets(b: &mut BookBytes, t: Netted)
+    requires { Extends (book_of b.old).records (book_of b.old).positions t.count t.positions }
     ensures { book_of b.new ≡ with_rows (book_of b.old) t.count t.positions }
 {
     let n = t.count as usize;
@@ -28,9 +30,8 @@ fn put_nets(b: &mut [u8], t: Netted)
 }
 
 // `t` is what `with_nets` makes of the book, and has room for all nets.
-pub fn before_offset(b: &mut [u8], t: Netted)
-    requires { (length b.old ≡ book_length) × (sound (book_of b.old) ≡ true) × (open_plus_nets (book_of b.old) ≤ most_records)
-        × (t.count ≡ open_plus_nets (book_of b.old)) × (t.positions ≡ (rolling (book_of b.old)).positions) }
+pub fn before_offset(b: &mut BookBytes, t: Netted)
+    requires { (sound (book_of b.old) ≡ true) × WithNets (book_of b.old) t.count t.positions }
     ensures { book_of b.new ≡ rolling (book_of b.old) }
 {
     let day = day_at(b);

@@ -7,7 +7,7 @@ ghost use Rattle.rules.specs.Book.{open_of};
 ghost use Rattle.rules.specs.Layout.{book_length, book_of};
 ghost use Rattle.laws.specs.DueDays.{is_older};
 
-use book::{position_at, records_at};
+use book::{BookBytes, position_at, records_at};
 use rules::Position;
 use sound_positions::due_of;
 
@@ -22,8 +22,8 @@ fn counted(n: usize, p: Position, day: u32) -> usize
     n
 }
 
-pub fn due_before(b: &[u8], day: u32) -> usize
-    requires { (length b.now ≡ book_length) × ((book_of b.now).records ≤ most_records) }
+pub fn due_before(b: &BookBytes, day: u32) -> usize
+    requires { (book_of b.now).records ≤ most_records }
     ensures { result ≡ length (keep (is_older day) (open_of (book_of b.now))) }
 {
     let n = records_at(b) as usize;

@@ -4,12 +4,12 @@ ghost use Rattle.std.specs.Prelude.{◌≡◌, length};
 ghost use Rattle.rules.specs.Layout.{book_length, book_of};
 ghost use Rattle.offsetting.specs.Rows.{RowsAsk, met_in};
 
-use book::{charge_at, position_at, put_charge, put_position};
+use book::{BookBytes, charge_at, position_at, put_charge, put_position};
 use offsetting_meetings::meeting;
 
 // Row i, newly due, meets row j, an older one; `at` is where the walk charges row i's account.
-pub fn meet(b: &mut [u8], i: usize, j: usize, at: usize)
-    requires { (length b.old ≡ book_length) × RowsAsk (book_of b.old) i j at }
+pub fn meet(b: &mut BookBytes, i: usize, j: usize, at: usize)
+    requires { RowsAsk (book_of b.old) i j at }
     ensures { book_of b.new ≡ met_in (book_of b.old) i j at }
 {
     let p = position_at(b, i);

@@ -10,7 +10,7 @@ ghost use Rattle.offsetting.specs.Rows.{Walked};
 
 use crate::borders::due_before;
 use crate::rows::meet;
-use book::{charge_at, codes_of, day_at, position_at, put_charge};
+use book::{BookBytes, charge_at, codes_of, day_at, position_at, put_charge};
 use offsetting_meetings::{same_pair, with_whole};
 use parts::{pack, place_of};
 
@@ -18,8 +18,8 @@ use parts::{pack, place_of};
 // older rows for each newly due one; nothing is written for most of them, which are of other accounts and securities,
 // and are done with when their number has been compared. A meeting leaves the number of the newly due record as it is,
 // so that `fresh`, as it was read, still tells whom it may meet.
-fn offset_rows(b: &mut [u8], older: usize, due: usize)
-    requires { (length b.old ≡ book_length) × WalkAsks (book_of b.old) older due }
+fn offset_rows(b: &mut BookBytes, older: usize, due: usize)
+    requires { WalkAsks (book_of b.old) older due }
     ensures { Walked (book_of b.old) (book_of b.new) }
 {
     let codes = codes_of(b);
@@ -45,8 +45,8 @@ fn offset_rows(b: &mut [u8], older: usize, due: usize)
 
 // The book before this step: charges zero, today's nets behind the open positions and nothing behind them, the day gone
 // up by one.
-pub fn offset_due(b: &mut [u8])
-    requires { (length b.old ≡ book_length) × Ready (book_of b.old) × PackAsks (book_of b.old) }
+pub fn offset_due(b: &mut BookBytes)
+    requires { Ready (book_of b.old) × PackAsks (book_of b.old) }
     ensures { book_of b.new ≡ offset (book_of b.old) }
 {
     let today = day_at(b) as u32;

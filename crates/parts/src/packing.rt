@@ -7,14 +7,14 @@ ghost use Rattle.rules.specs.Layout.{book_length, book_of};
 ghost use Rattle.book.specs.Replacing.{with_rows};
 ghost use Rattle.parts.specs.Packing.{PackAsks, remaining_in, moved_up, cleared};
 
-use book::{day_at, position_at, put_position, put_records, records_at};
+use book::{BookBytes, day_at, position_at, put_position, put_records, records_at};
 use rules::Position;
 use sound_positions::nonzero_if_due;
 use units::{Mils, Shares, Whole};
 
 // How many remain, and they are the first rows. A row that keeps its place is not written.
-fn move_up(b: &mut [u8]) -> usize
-    requires { (length b.old ≡ book_length) × ((book_of b.old).records ≤ most_records) }
+fn move_up(b: &mut BookBytes) -> usize
+    requires { (book_of b.old).records ≤ most_records }
     ensures { (book_of b.new ≡ moved_up (book_of b.old)) × (result ≡ length (remaining_in (book_of b.old))) × (result ≤ (book_of b.old).records) }
 {
     let day = day_at(b);
@@ -39,8 +39,8 @@ fn move_up(b: &mut [u8]) -> usize
 }
 
 // The rows from one up to another are set to zero.
-fn clear_rows(b: &mut [u8], from: usize, to: usize)
-    requires { (length b.old ≡ book_length) × (from ≤ to) × (to ≤ most_records) }
+fn clear_rows(b: &mut BookBytes, from: usize, to: usize)
+    requires { (from ≤ to) × (to ≤ most_records) }
     ensures { book_of b.new ≡ with_rows (book_of b.old) (book_of b.old).records (cleared (book_of b.old).positions from to) }
 {
     let none = Position {
@@ -57,8 +57,8 @@ fn clear_rows(b: &mut [u8], from: usize, to: usize)
 
 // The table has then the records that remain on the day, those not yet due and those due that have shares; their count is
 // the book's, and the room behind them is zero.
-pub fn pack(b: &mut [u8])
-    requires { (length b.old ≡ book_length) × PackAsks (book_of b.old) }
+pub fn pack(b: &mut BookBytes)
+    requires { PackAsks (book_of b.old) }
     ensures { book_of b.new ≡ with_open (book_of b.old) (remaining_in (book_of b.old)) }
 {
     let n = records_at(b) as usize;

@@ -3,4 +3,4 @@
 
 mod whole;
 
-pub use whole::{Played, play, play_records};
+pub use whole::{play, play_records};

@@ -8,23 +8,16 @@ ghost use Rattle.history.specs.Histories.{made};
 ghost use Rattle.playing_records.specs.Steps.{left_at};
 ghost use Rattle.playing_records.specs.Playing.{text_left, Ready};
 
-use book::BOOK_BYTES;
+use book::BookBytes;
 use callfile_format::{other_version, record_at};
 use house::create;
-use playing_records::{
-    apply_again, count_answers, is_none, next_place, put_answer, refused_behind,
-};
-
-// The number of the answer, and how many bytes the answers of the records take.
-#[derive(Drop)]
-pub struct Played {
-    pub number: u8,
-    pub size: usize,
-}
+use playing_records::{Answer, apply_again, count_answers, next_place, put_answer, refused_behind};
+use rules::Refusal;
+use units::Quantity;
 
 // The records behind the create. A refused one leaves the book as it was, and the file goes on; an unreadable one is
 // answered by 19 and its place, and is the last.
-fn play_calls(book: &mut [u8], file: &[u8], answers: &mut [u8])
+fn play_calls(book: &mut BookBytes, file: &[u8], answers: &mut [u8])
     requires { Ready book.old file.now answers.old }
     ensures { (answers.new ≡ stored answers.old 9 (text_left (book_of book.old) (left_at file.now 36)))
         × (book.new ≡ bytes_of (made (book_of book.old) (left_at file.now 36).calls)) }
@@ -32,66 +25,51 @@ fn play_calls(book: &mut [u8], file: &[u8], answers: &mut [u8])
     let n = file.len();
     let mut place: usize = 36;
     let mut at: usize = 9;
-    let mut refused: u8 = 0;
+    let mut refused: Option<Refusal> = None;
     while place < n {
         let found = record_at(file, place);
-        let a = apply_again(book, found, place as u64, refused);
-        refused = refused_behind(found, a.number, a.figure, refused);
-        put_answer(answers, at, a.number, a.figure);
+        let answer = apply_again(book, found, place as u64, refused);
+        refused = refused_behind(found, answer, refused);
+        put_answer(answers, at, answer);
         place = next_place(file, place, found);
         at += 9;
     }
 }
 
 // All records of a file that is not refused: their answers, and the book that they leave.
-pub fn play_records(book: &mut [u8], file: &[u8], answers: &mut [u8])
-    requires { (length book.old ≡ book_length) × (length (answers_of file.now) ≤ length answers.old) }
+pub fn play_records(book: &mut BookBytes, file: &[u8], answers: &mut [u8])
+    requires { length (answers_of file.now) ≤ length answers.old }
     ensures { (answers.new ≡ stored answers.old 0 (answers_of file.now))
         × (book.new ≡ bytes_left book.old (file_of file.now).book) }
 {
     if other_version(file) {
-        put_answer(answers, 0, 19, 0);
+        put_answer(answers, 0, Answer::Unreadable(0));
         return;
     }
-    let first = record_at(file, 1);
-    if is_none(first) {
-        put_answer(answers, 0, 19, 1);
+    if record_at(file, 1).is_none() {
+        put_answer(answers, 0, Answer::Unreadable(1));
         return;
     }
     create(book, &file[4..36]);
-    put_answer(answers, 0, 0, 0);
+    put_answer(answers, 0, Answer::Accepted(Quantity(0)));
     play_calls(book, file, answers);
 }
 
-fn refused() -> Played
-    ensures { (result.number ≡ 18) × (result.size ≡ 0) }
-{
-    Played {
-        number: 18,
-        size: 0,
-    }
-}
-
-// 18: the file passes 65,535 bytes, the book has another length, or the answers do not fit. Then nothing is altered.
-pub fn play(book: &mut [u8], file: &[u8], answers: &mut [u8]) -> Played
-    ensures { (result.number ≡ whole_answer book.old file.now answers.old)
-        × (result.size ≡ whole_size book.old file.now answers.old)
+// How many bytes the answers of the records take. 18: the file passes 65,535 bytes, the book has another length, or the answers do not fit. Then nothing is altered.
+pub fn play(book: &mut [u8], file: &[u8], answers: &mut [u8]) -> Result<usize, Refusal>
+    ensures { (answered result ≡ whole_answer book.old file.now answers.old)
+        × (value_or 0 result ≡ whole_size book.old file.now answers.old)
         × (answers.new ≡ whole_answers book.old file.now answers.old)
         × (book.new ≡ whole_bytes book.old file.now answers.old) }
 {
     if file.len() > 65_535 {
-        return refused();
+        return Err(Refusal::Length);
     }
-    if book.len() != BOOK_BYTES {
-        return refused();
-    }
+    let book = book.as_mut_array().ok_or(Refusal::Length)?;
     let size = 9 * count_answers(file);
     if answers.len() < size {
-        return refused();
+        return Err(Refusal::Length);
     }
     play_records(book, file, answers);
-    Played {
-        number: 0,
-        size: size,
-    }
+    Ok(size)
 }

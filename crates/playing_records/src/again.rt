@@ -6,80 +6,68 @@ ghost use Rattle.rules.specs.Sound.{not_sound};
 ghost use Rattle.playing_records.specs.Applying.{call_in, number_by, figure_by, bytes_by};
 ghost use Rattle.playing_records.specs.Again.{is_roll, is_run, leaves, Refuses};
 
-use crate::applying::{Answer, apply, plain};
+use crate::applying::{Answer, apply};
+use book::BookBytes;
 use callfile_format::Read;
+use rules::Refusal;
 
-fn is_roll(found: Read) -> bool
+fn is_roll(found: Option<Read>) -> bool
     ensures { result ≡ is_roll found }
 {
-    match found {
-        Read::Create => false,
-        Read::Enter(_) => false,
-        Read::Amend(_) => false,
-        Read::Exclude(_) => false,
-        Read::Roll => true,
-        Read::Deposit(_, _, _) => false,
-        Read::Withdraw(_, _, _) => false,
-        Read::Run(_) => false,
-        Read::Unreadable => false,
-    }
+    matches!(found, Some(Read::Roll))
 }
 
-// As `apply`, on a book that is known to refuse a roll by `refused`, or of which nothing is known, if that is 0.
-pub fn apply_again(book: &mut [u8], found: Read, place: u64, refused: u8) -> Answer
+// As `apply`, on a book that is known to refuse a roll by `refused`, or of which nothing is known.
+pub fn apply_again(
+    book: &mut BookBytes,
+    found: Option<Read>,
+    place: u64,
+    refused: Option<Refusal>,
+) -> Answer
     requires { (not_sound book.old ≡ false) × Refuses book.old refused }
-    ensures { (result.number ≡ number_by book.old (call_in found))
-        × (result.figure ≡ figure_by book.old place (call_in found))
+    ensures { (number_in result ≡ number_by book.old (call_in found))
+        × (figure_in result ≡ figure_by book.old place (call_in found))
         × (book.new ≡ bytes_by book.old (call_in found)) }
 {
-    if refused == 0 {
-        return apply(book, found, place);
+    match refused {
+        Some(r) if is_roll(found) => Answer::Refused(r),
+        _ => apply(book, found, place),
     }
-    if is_roll(found) {
-        return plain(refused);
-    }
-    apply(book, found, place)
 }
 
-fn is_run(found: Read) -> bool
+fn is_run(found: Option<Read>) -> bool
     ensures { result ≡ is_run found }
 {
-    match found {
-        Read::Create => false,
-        Read::Enter(_) => false,
-        Read::Amend(_) => false,
-        Read::Exclude(_) => false,
-        Read::Roll => false,
-        Read::Deposit(_, _, _) => false,
-        Read::Withdraw(_, _, _) => false,
-        Read::Run(_) => true,
-        Read::Unreadable => false,
-    }
+    matches!(found, Some(Read::Run(_)))
 }
 
 // Whether a record that was answered so is known to have left the book: it was refused, or is a run that moved nothing.
-fn is_left(found: Read, number: u8, figure: u64) -> bool
-    ensures { result ≡ leaves found number figure }
+fn is_left(found: Option<Read>, answer: Answer) -> bool
+    ensures { result ≡ leaves found (number_in answer) (figure_in answer) }
 {
-    if number != 0 {
-        return true;
+    match answer {
+        Answer::Accepted(moved) => is_run(found) && moved.0 == 0,
+        Answer::Refused(_) | Answer::Unreadable(_) => true,
     }
-    if !is_run(found) {
-        return false;
-    }
-    figure == 0
 }
 
-// What is known of a roll behind a record that was answered so: behind a roll its own answer; behind any other record
+// What is known of a roll behind a record that was answered so: behind a roll its own refusal; behind any other record
 // that left the book what was known before it.
-pub fn refused_behind(found: Read, number: u8, figure: u64, refused: u8) -> u8
-    ensures { result ≡ cond (is_roll found) number (cond (leaves found number figure) refused 0) }
+pub fn refused_behind(
+    found: Option<Read>,
+    answer: Answer,
+    refused: Option<Refusal>,
+) -> Option<Refusal>
+    ensures { result ≡ cond (is_roll found) (refusal_in answer) (cond (leaves found (number_in answer) (figure_in answer)) refused None) }
 {
     if is_roll(found) {
-        return number;
+        return match answer {
+            Answer::Refused(r) => Some(r),
+            _ => None,
+        };
     }
-    if is_left(found, number, figure) {
+    if is_left(found, answer) {
         return refused;
     }
-    0
+    None
 }

@@ -6,78 +6,71 @@ ghost use Rattle.rules.specs.Sound.{not_sound};
 ghost use Rattle.rules.specs.Calls.{number_of_run, figure_of_run};
 ghost use Rattle.playing_records.specs.Applying.{call_in, number_by, figure_by, bytes_by};
 
+use book::BookBytes;
 use callfile_format::Read;
 use calls::{amend, deposit, enter, exclude, run, withdraw};
 use calls_rolls::roll;
 use fields::put;
-use rules::RunAnswer;
+use rules::Refusal;
+use units::{Quantity, Shares};
 
-// The number, and the figure: the shares that a run moved, or the place of a 19.
+// The answer of a record: that its call is accepted, with the shares that a run moved (0 of any other call); its call's refusal; or that
+// it is unreadable, with its place.
 #[derive(Clone, Copy)]
-pub struct Answer {
-    pub number: u8,
-    pub figure: u64,
+pub enum Answer {
+    Accepted(Quantity),
+    Refused(Refusal),
+    Unreadable(u64),
 }
 
 // Only a run has a figure.
-pub fn plain(number: u8) -> Answer
-    ensures { (result.number ≡ number) × (result.figure ≡ 0) }
+fn plain(answer: Result<(), Refusal>) -> Answer
+    ensures { (number_in result ≡ answered answer) × (figure_in result ≡ 0) }
 {
-    Answer {
-        number: number,
-        figure: 0,
+    match answer {
+        Ok(()) => Answer::Accepted(Quantity(0)),
+        Err(r) => Answer::Refused(r),
     }
 }
 
-fn of_run(a: RunAnswer) -> Answer
-    ensures { (result.number ≡ number_of_run a) × (result.figure ≡ nat_abs (figure_of_run a)) }
+fn of_run(answer: Result<Shares, Refusal>) -> Answer
+    ensures { (number_in result ≡ number_of_run (numbered answer)) × (figure_in result ≡ nat_abs (figure_of_run (numbered answer))) }
 {
-    match a {
-        RunAnswer::Moved(n) => Answer {
-            number: 0,
-            figure: n.size().0,
-        },
-        RunAnswer::RunRefused(r) => Answer {
-            number: r,
-            figure: 0,
-        },
-    }
-}
-
-fn unread(place: u64) -> Answer
-    ensures { (result.number ≡ 19) × (result.figure ≡ place) }
-{
-    Answer {
-        number: 19,
-        figure: place,
+    match answer {
+        Ok(moved) => Answer::Accepted(moved.size()),
+        Err(r) => Answer::Refused(r),
     }
 }
 
 // A create stands first and only there: it makes a book and is no call on one, so that it is unreadable here.
-pub fn apply(book: &mut [u8], found: Read, place: u64) -> Answer
+pub fn apply(book: &mut BookBytes, found: Option<Read>, place: u64) -> Answer
     requires { not_sound book.old ≡ false }
-    ensures { (result.number ≡ number_by book.old (call_in found))
-        × (result.figure ≡ figure_by book.old place (call_in found))
+    ensures { (number_in result ≡ number_by book.old (call_in found))
+        × (figure_in result ≡ figure_by book.old place (call_in found))
         × (book.new ≡ bytes_by book.old (call_in found)) }
 {
     match found {
-        Read::Enter(t) => plain(enter(book, t)),
-        Read::Amend(t) => plain(amend(book, t)),
-        Read::Exclude(n) => plain(exclude(book, n)),
-        Read::Roll => plain(roll(book)),
-        Read::Deposit(a, s, q) => plain(deposit(book, a, s, q)),
-        Read::Withdraw(a, s, q) => plain(withdraw(book, a, s, q)),
-        Read::Run(s) => of_run(run(book, s)),
-        Read::Create => unread(place),
-        Read::Unreadable => unread(place),
+        Some(Read::Enter(t)) => plain(enter(book, t)),
+        Some(Read::Amend(t)) => plain(amend(book, t)),
+        Some(Read::Exclude(n)) => plain(exclude(book, n)),
+        Some(Read::Roll) => plain(roll(book)),
+        Some(Read::Deposit(a, s, q)) => plain(deposit(book, a, s, q)),
+        Some(Read::Withdraw(a, s, q)) => plain(withdraw(book, a, s, q)),
+        Some(Read::Run(s)) => of_run(run(book, s)),
+        Some(Read::Create) | None => Answer::Unreadable(place),
     }
 }
 
 // 9 bytes for each answer: number 1, figure 8.
-pub fn put_answer(answers: &mut [u8], at: usize, number: u8, figure: u64)
+pub fn put_answer(answers: &mut [u8], at: usize, answer: Answer)
     requires { at + 9 ≤ length answers.old }
-    ensures { answers.new ≡ stored answers.old at (digits 1 number ++ digits 8 figure) }
+    ensures { answers.new ≡ stored answers.old at (digits 1 (number_in answer) ++ digits 8 (figure_in answer)) }
 {
+    let (number, figure) = match answer {
+        Answer::Accepted(moved) => (0, moved.0),
+        Answer::Refused(r) => (u8::from(r), 0),
+        Answer::Unreadable(place) => (19, place),
+    };
     put(answers, at, 1, number as u64);
     put(answers, at + 1, 8, figure);
 }

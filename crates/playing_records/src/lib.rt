@@ -7,4 +7,4 @@ mod walking;
 
 pub use again::{apply_again, refused_behind};
 pub use applying::{Answer, put_answer};
-pub use walking::{count_answers, is_none, next_place};
+pub use walking::{count_answers, next_place};

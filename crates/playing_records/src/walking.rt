@@ -9,29 +9,13 @@ ghost use Rattle.playing_records.specs.Steps.{is_none, next_in};
 use callfile_format::{Read, other_version, record_at};
 use fields::get;
 
-pub fn is_none(found: Read) -> bool
-    ensures { result ≡ is_none found }
-{
-    match found {
-        Read::Create => false,
-        Read::Enter(_) => false,
-        Read::Amend(_) => false,
-        Read::Exclude(_) => false,
-        Read::Roll => false,
-        Read::Deposit(_, _, _) => false,
-        Read::Withdraw(_, _, _) => false,
-        Read::Run(_) => false,
-        Read::Unreadable => true,
-    }
-}
-
 // Where the record behind the one that was found at a place begins. Behind an unreadable one the walk is at its end.
-pub fn next_place(file: &[u8], place: usize, found: Read) -> usize
+pub fn next_place(file: &[u8], place: usize, found: Option<Read>) -> usize
     requires { (place ≤ length file.now) × (says found (codes_at place file.now) ≡ record_at file.now place) }
     ensures { (result ≡ next_in file.now place) × (result ≤ length file.now)
         × (place < length file.now → place < result) }
 {
-    if is_none(found) {
+    if found.is_none() {
         return file.len();
     }
     let long = get(file, place, 2) as usize;

@@ -1,7 +1,8 @@
 -- The calls that alter the book (document 01, "Refusal numbers" and the rules of each): refusals in their order, answer and figure,
 -- the book that is left, and every byte of it.
-use Rattle.std.specs.Prelude.{Bool, cond, not, ◌||◌, List, [], ◌∷◌, ℕ, ◌+◌, ◌-◌, eqb, leb, length, set, ℤ, pos}
+use Rattle.std.specs.Prelude.{Bool, cond, not, ◌||◌, List, [], ◌∷◌, ℕ, ◌+◌, ◌-◌, eqb, leb, length, set, ℤ, pos, Result, Ok, Err}
 use Rattle.units.specs.Units.{shares_of, shares}
+use Rattle.units.specs.declared.Shares.{Shares}
 use Rattle.rules.specs.Words.{all, above, outside, Test, first}
 use Rattle.rules.specs.Bounds.{securities, last_day, most_records, most_trades, most_held, most_deposited}
 use Rattle.rules.specs.Book.{list_of, with_list, with_holdings, held_by, holding_at, empty_book}
@@ -12,8 +13,6 @@ use Rattle.rules.specs.Roll.{rolled, open_plus_nets}
 use Rattle.rules.specs.Run.{deliverable, wanted, shares_moved, settled}
 use Rattle.rules.specs.declared.Trade.{Trade}
 use Rattle.rules.specs.declared.Book.{Book}
-use Rattle.rules.specs.declared.RunAnswer.{RunAnswer}
-use Rattle.rules.specs.declared.RunAnswer.TheVariants.{Moved, RunRefused}
 
 pub data Call : Type 0 where
   enter : Trade → Call
@@ -92,18 +91,18 @@ after_bytes bs c = cond (eqb (answer_bytes bs c) 0) (bytes_of (after (book_of bs
 unfoldable pub figure_bytes : List ℕ → Call → ℕ
 figure_bytes bs c = cond (eqb (answer_bytes bs c) 0) (figure (book_of bs) c) 0
 
--- the answer of a run as it is returned
-unfoldable pub run_answer : List ℕ → ℕ → RunAnswer
-run_answer bs s = cond (eqb (answer_bytes bs (run s)) 0) (Moved (shares (pos (figure_bytes bs (run s))))) (RunRefused (answer_bytes bs (run s)))
+-- the answer of a run as it is returned: the shares moved, or the refusal by its number
+unfoldable pub run_answer : List ℕ → ℕ → Result Shares ℕ
+run_answer bs s = cond (eqb (answer_bytes bs (run s)) 0) (Ok (shares (pos (figure_bytes bs (run s))))) (Err (answer_bytes bs (run s)))
 
 -- the paper's number of it, and its figure: zero when refused
-unfoldable pub number_of_run : RunAnswer → ℕ
-number_of_run (Moved n) = 0
-number_of_run (RunRefused r) = r
+unfoldable pub number_of_run : Result Shares ℕ → ℕ
+number_of_run (Ok n) = 0
+number_of_run (Err r) = r
 
-unfoldable pub figure_of_run : RunAnswer → ℤ
-figure_of_run (Moved n) = shares_of n
-figure_of_run (RunRefused r) = pos 0
+unfoldable pub figure_of_run : Result Shares ℕ → ℤ
+figure_of_run (Ok n) = shares_of n
+figure_of_run (Err r) = pos 0
 
 -- ── creation: 18, 3; it begins a new history and looks at no old byte ──
 

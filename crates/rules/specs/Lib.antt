@@ -3,6 +3,7 @@ pub mod Words
 pub mod Bounds
 pub mod Book
 pub mod Layout
+pub mod Refusals
 pub mod Trades
 pub mod Sound
 pub mod Nets

@@ -1,6 +1,6 @@
 -- Marks on values (document 01, "Marks" and the order of its refusals). Each theorem is about any bytes that are a sound book, and that book:
 -- `not_sound bs ≡ false` and `book_of bs ≡ k`. (That these books are sound, and marks over bytes: the crate marks_examples.)
-use Rattle.std.specs.Prelude.{◌≡◌, true, false, List, [], ◌∷◌, ◌++◌, map, ℕ, ◌+◌, replicate, ℤ, pos, neg_ℤ}
+use Rattle.std.specs.Prelude.{◌≡◌, true, false, List, [], ◌∷◌, ◌++◌, map, ℕ, ◌+◌, replicate, ℤ, pos, neg_ℤ, Result, Ok, Err}
 use Rattle.units.specs.Units.{mils}
 use Rattle.rules.specs.Words.{from}
 use Rattle.rules.specs.Book.{with_open}
@@ -10,16 +10,15 @@ use Rattle.rules.specs.Marks.{Terms, terms, marks_tests, marks_number, marks}
 use Rattle.rules.specs.Opened.{values}
 use Rattle.rules.specs.Written.{at, book_with}
 use Rattle.rules.specs.declared.Book.{Book}
-use Rattle.rules.specs.declared.MarksAnswer.{MarksAnswer}
-use Rattle.rules.specs.declared.MarksAnswer.TheVariants.{Due, MarksRefused}
+use Rattle.rules.specs.declared.Marks.{Marks}
 
 -- what marks answer for account a on every sound book that is k
-abbrev pub IsAnswered : Book → ℕ → Terms → MarksAnswer → Type 0
+abbrev pub IsAnswered : Book → ℕ → Terms → Result Marks ℕ → Type 0
 IsAnswered k a t r = (bs : List ℕ) → not_sound bs ≡ false → book_of bs ≡ k → marks bs a t ≡ r
 
 -- the due, and the sums of currencies 0, 1 and 2
-abbrev pub due : ℕ → ℤ → ℤ → ℤ → MarksAnswer
-due n a b c = Due (mils (pos n)) (mils a) (mils b) (mils c) (mils (pos 0))
+abbrev pub due : ℕ → ℤ → ℤ → ℤ → Result Marks ℕ
+due n a b c = Ok (record { due = mils (pos n); sums = mils a ∷ mils b ∷ mils c ∷ mils (pos 0) ∷ [] })
 
 -- ── tables: without a price; too short; 10,000,000 in entry 31; every rate that of the base; no haircut ──
 
@@ -79,7 +78,7 @@ unfolding values owing
 at_the_limit bs h b = rw (marks, marks_number, marks_tests, b, h)
 
 -- 19 pass it, though neither currency does alone
-past_it : IsAnswered (owing 10) 1 highest (MarksRefused 16)
+past_it : IsAnswered (owing 10) 1 highest (Err 16)
 unfolding values owing
 past_it bs h b = rw (marks, marks_number, marks_tests, b, h)
 
@@ -91,31 +90,31 @@ crowded =
     with_open (book_with (replicate 9 1 ++ replicate 11 2))
     (map (λ s. at 1 1 s (pos 0) (pos 2_500_000_000_000_000)) (from 0 19) ++ (at 1 1 19 (pos 1) (pos 0) ∷ at 1 2 19 (neg_ℤ (pos 1)) (pos 0) ∷ []))
 
-one_first : (bs : List ℕ) → not_sound bs ≡ true → marks bs 64 (terms short short [] []) ≡ MarksRefused 1
+one_first : (bs : List ℕ) → not_sound bs ≡ true → marks bs 64 (terms short short [] []) ≡ Err 1
 unfolding values
 one_first bs h = rw (marks, marks_number, marks_tests, h)
 
-two_next : IsAnswered crowded 64 (terms short dear [] haircuts) (MarksRefused 2)
+two_next : IsAnswered crowded 64 (terms short dear [] haircuts) (Err 2)
 unfolding values crowded
 two_next bs h b = rw (marks, marks_number, marks_tests, b, h)
 
-then_eighteen : IsAnswered crowded 1 (terms short dear rates haircuts) (MarksRefused 18)
+then_eighteen : IsAnswered crowded 1 (terms short dear rates haircuts) (Err 18)
 unfolding values crowded
 then_eighteen bs h b = rw (marks, marks_number, marks_tests, b, h)
 
 -- an entry too high, in either table
-then_five : IsAnswered crowded 1 (terms none dear (replicate 4 0) haircuts) (MarksRefused 5)
+then_five : IsAnswered crowded 1 (terms none dear (replicate 4 0) haircuts) (Err 5)
 unfolding values crowded
 then_five bs h b = rw (marks, marks_number, marks_tests, b, h)
 
-five_by_intraday : IsAnswered crowded 1 (terms dear none (replicate 4 0) haircuts) (MarksRefused 5)
+five_by_intraday : IsAnswered crowded 1 (terms dear none (replicate 4 0) haircuts) (Err 5)
 unfolding values crowded
 five_by_intraday bs h b = rw (marks, marks_number, marks_tests, b, h)
 
-then_fifteen : IsAnswered crowded 1 (terms none none (1_000_000 ∷ 100_000_000 ∷ 100_000_000 ∷ 1 ∷ []) (0 ∷ 10_000 ∷ 10_000 ∷ 10_001 ∷ [])) (MarksRefused 15)
+then_fifteen : IsAnswered crowded 1 (terms none none (1_000_000 ∷ 100_000_000 ∷ 100_000_000 ∷ 1 ∷ []) (0 ∷ 10_000 ∷ 10_000 ∷ 10_001 ∷ [])) (Err 15)
 unfolding values crowded
 then_fifteen bs h b = rw (marks, marks_number, marks_tests, b, h)
 
-then_seventeen : IsAnswered crowded 1 highest (MarksRefused 17)
+then_seventeen : IsAnswered crowded 1 highest (Err 17)
 unfolding values crowded
 then_seventeen bs h b = rw (marks, marks_number, marks_tests, b, h)

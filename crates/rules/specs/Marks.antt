@@ -1,5 +1,5 @@
 -- Marks (document 01, the section of that name).
-use Rattle.std.specs.Prelude.{Bool, cond, not, ◌&&◌, ◌||◌, List, [], ◌∷◌, ℕ, ◌-◌, eqb, length, get_or, ℤ, pos, ◌-ℤ◌, ◌*ℤ◌}
+use Rattle.std.specs.Prelude.{Bool, cond, not, ◌&&◌, ◌||◌, List, [], ◌∷◌, ℕ, ◌-◌, eqb, length, map, get_or, ℤ, pos, ◌-ℤ◌, ◌*ℤ◌, Result, Ok, Err}
 use Rattle.integers.specs.Sums.{sum_by}
 use Rattle.units.specs.Units.{mils_of, mils, top_rate, whole_haircut}
 use Rattle.units_rounded.specs.Conversion.{favourable_of, unfavourable_of}
@@ -12,8 +12,7 @@ use Rattle.rules.specs.Sound.{records_of, not_sound}
 use Rattle.rules.specs.Prices.{wrong_table, entry_above, price_of, no_price}
 use Rattle.rules.specs.declared.Position.{Position}
 use Rattle.rules.specs.declared.Book.{Book}
-use Rattle.rules.specs.declared.MarksAnswer.{MarksAnswer}
-use Rattle.rules.specs.declared.MarksAnswer.TheVariants.{Due, MarksRefused}
+use Rattle.rules.specs.declared.Marks.{Marks}
 
 -- what marks are asked with: two price tables, a rate in millionths of the base and a haircut in basis points for each currency
 pub record Terms : Type 0 where
@@ -63,10 +62,12 @@ unfoldable pub unfavourable_total : Book → Terms → List Position → ℕ
 unfavourable_total k t ps = total (λ c. unfavourable_of (sum_of k t ps c) (rate_of t c) (haircut_of t c)) every_currency
 
 -- Due: unfavourable total less favourable total, or 0 (subtraction in ℕ stops there). The answer has the due and four signed sums.
-unfoldable pub due_and_sums : Book → Terms → List Position → MarksAnswer
+unfoldable pub due_and_sums : Book → Terms → List Position → Marks
 due_and_sums k t ps =
-    Due (mils (pos (unfavourable_total k t ps - favourable_total k t ps)))
-    (mils (sum_of k t ps 0)) (mils (sum_of k t ps 1)) (mils (sum_of k t ps 2)) (mils (sum_of k t ps 3))
+    record {
+      due = mils (pos (unfavourable_total k t ps - favourable_total k t ps));
+      sums = mils (sum_of k t ps 0) ∷ mils (sum_of k t ps 1) ∷ mils (sum_of k t ps 2) ∷ mils (sum_of k t ps 3) ∷ [];
+    }
 
 -- ── the call ──
 
@@ -104,9 +105,9 @@ marks_tests bs a t =
 unfoldable pub marks_number : List ℕ → ℕ → Terms → ℕ
 marks_number bs a t = first (marks_tests bs a t)
 
-unfoldable pub marks : List ℕ → ℕ → Terms → MarksAnswer
+unfoldable pub marks : List ℕ → ℕ → Terms → Result Marks ℕ
 marks bs a t =
-    cond (eqb (marks_number bs a t) 0) (due_and_sums (book_of bs) t (marked_of (book_of bs) a)) (MarksRefused (marks_number bs a t))
+    cond (eqb (marks_number bs a t) 0) (Ok (due_and_sums (book_of bs) t (marked_of (book_of bs) a))) (Err (marks_number bs a t))
 
 -- the five figures: the due and the four sums, zero in each when refused
 unfoldable pub marks_figures : List ℕ → ℕ → Terms → List ℤ
@@ -118,10 +119,10 @@ marks_figures bs a t =
     (pos 0 ∷ pos 0 ∷ pos 0 ∷ pos 0 ∷ pos 0 ∷ [])
 
 -- the paper's number of an answer, and its five figures
-unfoldable pub number_of_marks : MarksAnswer → ℕ
-number_of_marks (Due due a b c d) = 0
-number_of_marks (MarksRefused n) = n
+unfoldable pub number_of_marks : Result Marks ℕ → ℕ
+number_of_marks (Ok m) = 0
+number_of_marks (Err n) = n
 
-unfoldable pub figures_of_marks : MarksAnswer → List ℤ
-figures_of_marks (Due due a b c d) = mils_of due ∷ mils_of a ∷ mils_of b ∷ mils_of c ∷ mils_of d ∷ []
-figures_of_marks (MarksRefused n) = pos 0 ∷ pos 0 ∷ pos 0 ∷ pos 0 ∷ pos 0 ∷ []
+unfoldable pub figures_of_marks : Result Marks ℕ → List ℤ
+figures_of_marks (Ok m) = mils_of m.due ∷ map mils_of m.sums
+figures_of_marks (Err n) = pos 0 ∷ pos 0 ∷ pos 0 ∷ pos 0 ∷ pos 0 ∷ []

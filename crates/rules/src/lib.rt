@@ -1,4 +1,9 @@
-// The types of the book and of the answers (document 01). The rules over them are definitions, in specs/: no code is here.
+// The types of the book and of the answers (document 01). The rules over them are definitions, in specs/.
+#![tactic(auto)]
+
+ghost use Rattle.std.specs.Prelude.{◌≡◌};
+ghost use Rattle.rules.specs.Refusals.{number_of, answered};
+
 use units::{Mils, Price, Shares};
 
 // An open position, a record of the position table. Its number says due day, account and security.
@@ -34,18 +39,72 @@ pub struct Book {
     pub trades: [Trade; 256],
 }
 
-// The answer of a run: the shares moved, or the refusal.
+// Why a call is refused (document 01, "Refusal numbers"), in the order of the numbers: 1 is the first. (19 is no refusal of a call.)
 #[derive(Clone, Copy)]
-pub enum RunAnswer {
-    Moved(Shares),
-    RunRefused(u8),
+pub enum Refusal {
+    Unsound,
+    Account,
+    Security,
+    Quantity,
+    Price,
+    SameAccount,
+    NumberUsed,
+    NoSuchTrade,
+    ListFull,
+    TableFull,
+    NotHeld,
+    HeldPastMost,
+    MoreThanWanted,
+    LastDay,
+    Rates,
+    TotalPastLimit,
+    NoPrice,
+    Length,
 }
 
-// The answer of marks: the due and the four sums, or the refusal.
+// The number that a refusal goes out as.
+impl From<Refusal> for u8 {
+    ghost from_gives = { λ r n. n ≡ number_of r };
+
+    fn from(r: Refusal) -> u8 {
+        match r {
+            Refusal::Unsound => 1,
+            Refusal::Account => 2,
+            Refusal::Security => 3,
+            Refusal::Quantity => 4,
+            Refusal::Price => 5,
+            Refusal::SameAccount => 6,
+            Refusal::NumberUsed => 7,
+            Refusal::NoSuchTrade => 8,
+            Refusal::ListFull => 9,
+            Refusal::TableFull => 10,
+            Refusal::NotHeld => 11,
+            Refusal::HeldPastMost => 12,
+            Refusal::MoreThanWanted => 13,
+            Refusal::LastDay => 14,
+            Refusal::Rates => 15,
+            Refusal::TotalPastLimit => 16,
+            Refusal::NoPrice => 17,
+            Refusal::Length => 18,
+        }
+    }
+}
+
+// The number that an answer goes out as: 0 where the call is accepted.
+pub fn number_of<T>(answer: &Result<T, Refusal>) -> u8
+    ensures { result ≡ answered answer.now }
+{
+    match answer {
+        Ok(_) => 0,
+        Err(r) => u8::from(*r),
+    }
+}
+
+// What marks answer: the due and the sum of each currency.
 #[derive(Clone, Copy)]
-pub enum MarksAnswer {
-    Due(Mils, Mils, Mils, Mils, Mils),
-    MarksRefused(u8),
+pub struct Marks {
+    pub due: Mils,
+    pub sums: [Mils; 4],
 }
 
 // The answer of one record of a call file: the call's own answer, the shares moved if it was a run, and the place of

@@ -6,4 +6,4 @@ mod moving;
 mod run;
 mod walk;
 
-pub use run::{run_refusal, with_run};
+pub use run::{may_run, with_run};

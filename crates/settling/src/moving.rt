@@ -8,15 +8,17 @@ ghost use Rattle.rules.specs.Run.{moved};
 ghost use Rattle.settling.specs.Charges.{ChargeAsks, charged_parts};
 ghost use Rattle.settling.specs.Meetings.{MeetAsks, met_in};
 
-use book::{charge_at, codes_of, holding_at, position_at, put_charge, put_holding, put_position};
+use book::{
+    BookBytes, charge_at, codes_of, holding_at, position_at, put_charge, put_holding, put_position,
+};
 use parts::{place_of, rest_of, with_part};
 use rules::Position;
 use settling_counts::holding_place;
 use units::{Quantity, Shares};
 
 // k shares go from one holding to another.
-fn move_shares(b: &mut [u8], from: usize, to: usize, k: Quantity)
-    requires { (length b.old ≡ book_length) × (from < 2048) × (to < 2048) × (k.0 ≤ get_or (book_of b.old).holdings from 0) × (get_or (book_of b.old).holdings to 0 + k.0 < 2 ^ 64) }
+fn move_shares(b: &mut BookBytes, from: usize, to: usize, k: Quantity)
+    requires { (from < 2048) × (to < 2048) × (k.0 ≤ get_or (book_of b.old).holdings from 0) × (get_or (book_of b.old).holdings to 0 + k.0 < 2 ^ 64) }
     ensures { book_of b.new ≡ with_holdings (book_of b.old) (moved (book_of b.old).holdings from to k.0) }
 {
     let less = holding_at(b, from) - k.0;
@@ -26,8 +28,8 @@ fn move_shares(b: &mut [u8], from: usize, to: usize, k: Quantity)
 }
 
 // The giver's part is charged, then the receiver's.
-fn charge_parts(b: &mut [u8], giver: Position, receiver: Position, part: Shares)
-    requires { (length b.old ≡ book_length) × ChargeAsks (book_of b.old).charges (book_of b.old).currency giver receiver (nat_abs (shares_of part)) }
+fn charge_parts(b: &mut BookBytes, giver: Position, receiver: Position, part: Shares)
+    requires { ChargeAsks (book_of b.old).charges (book_of b.old).currency giver receiver (nat_abs (shares_of part)) }
     ensures { book_of b.new ≡ with_charges (book_of b.old) (charged_parts (book_of b.old).charges (book_of b.old).currency giver receiver (nat_abs (shares_of part))) }
 {
     let codes = codes_of(b);
@@ -40,8 +42,8 @@ fn charge_parts(b: &mut [u8], giver: Position, receiver: Position, part: Shares)
 }
 
 // The record in row g gives `size` shares to the one in row r.
-pub fn meet(b: &mut [u8], security: u8, g: usize, r: usize, size: Quantity)
-    requires { (length b.old ≡ book_length) × MeetAsks (book_of b.old) security g r size.0 }
+pub fn meet(b: &mut BookBytes, security: u8, g: usize, r: usize, size: Quantity)
+    requires { MeetAsks (book_of b.old) security g r size.0 }
     ensures { book_of b.new ≡ met_in (book_of b.old) security g r size.0 }
 {
     let giver = position_at(b, g);

@@ -9,26 +9,28 @@ ghost use Rattle.rules.specs.Run.{deliverable};
 ghost use Rattle.rules.specs.Calls.{run, answer_sound, after, figure};
 
 use crate::walk::walk;
+use book::BookBytes;
 use parts::pack;
+use rules::Refusal;
 use settling_counts::wanted_of;
 use units::{Quantity, Shares};
 
-// What a run of a listed security answers, of which `gives` shares can be given. 13 is looked at though it is never given
+// Whether a run of a listed security is taken, of which `gives` shares can be given. 13 is looked at though it is never given
 // on a sound book: there the receivers want what the givers owe.
-pub fn run_refusal(b: &[u8], security: u8, gives: Quantity) -> u8
-    requires { (length b.now ≡ book_length) × (sound (book_of b.now) ≡ true) × (bad_security (book_of b.now) security ≡ false) × (gives.0 ≡ deliverable (book_of b.now) security) }
-    ensures { result ≡ answer_sound (book_of b.now) (run security) }
+pub fn may_run(b: &BookBytes, security: u8, gives: Quantity) -> Result<(), Refusal>
+    requires { (sound (book_of b.now) ≡ true) × (bad_security (book_of b.now) security ≡ false) × (gives.0 ≡ deliverable (book_of b.now) security) }
+    ensures { answered result ≡ answer_sound (book_of b.now) (run security) }
 {
     let wants = wanted_of(b, security);
     if gives.0 > wants.0 {
-        return 13;
+        return Err(Refusal::MoreThanWanted);
     }
-    0
+    Ok(())
 }
 
 // The run, where the bytes stand: the walk, then the packing. Handed back are the shares moved.
-pub fn with_run(b: &mut [u8], security: u8, gives: Quantity) -> Shares
-    requires { (length b.old ≡ book_length) × (sound (book_of b.old) ≡ true) × (answer_sound (book_of b.old) (run security) ≡ 0) × (gives.0 ≡ deliverable (book_of b.old) security) × (gives.0 ≤ most_records * most_shares) }
+pub fn with_run(b: &mut BookBytes, security: u8, gives: Quantity) -> Shares
+    requires { (sound (book_of b.old) ≡ true) × (answer_sound (book_of b.old) (run security) ≡ 0) × (gives.0 ≡ deliverable (book_of b.old) security) × (gives.0 ≤ most_records * most_shares) }
     ensures { (b.new ≡ bytes_of (after (book_of b.old) (run security))) × (shares_of result ≡ pos (figure (book_of b.old) (run security))) }
 {
     let left = walk(b, security, gives);

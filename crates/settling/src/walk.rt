@@ -6,15 +6,15 @@ ghost use Rattle.settling.specs.Loops.{WalkAsks};
 ghost use Rattle.settling.specs.Bytes.{Ended};
 
 use crate::moving::meet;
-use book::{day_at, position_at, records_at};
+use book::{BookBytes, day_at, position_at, records_at};
 use settling_counts::{gives_of, smaller, wants_of};
 use units::Quantity;
 
 // Givers by ascending number meet receivers by ascending number, while some of `all` is left to give; what is left then
 // is handed back. Who has given all that it can, and who wants nothing more, is not met again: the rows before g and
 // before r are done with.
-pub fn walk(b: &mut [u8], security: u8, all: Quantity) -> Quantity
-    requires { (length b.old ≡ book_length) × WalkAsks (book_of b.old) security all.0 }
+pub fn walk(b: &mut BookBytes, security: u8, all: Quantity) -> Quantity
+    requires { WalkAsks (book_of b.old) security all.0 }
     ensures { Ended (book_of b.old) security all.0 b.new result.0 }
 {
     let day = day_at(b);

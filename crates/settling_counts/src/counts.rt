@@ -10,13 +10,13 @@ ghost use Rattle.rules.specs.Run.{deliverable, wanted};
 ghost use Rattle.settling_counts.specs.Holders.{Holders, is_none};
 
 use crate::sides::{owes_of, smaller, wants_of};
-use book::{day_at, holding_at, position_at, records_at};
+use book::{BookBytes, day_at, holding_at, position_at, records_at};
 use sound_positions::account_of;
 use units::Quantity;
 
 // What each account holds of the security.
-fn held_of(b: &[u8], security: u8) -> [u64; 64]
-    requires { (length b.now ≡ book_length) × (security < 32) }
+fn held_of(b: &BookBytes, security: u8) -> [u64; 64]
+    requires { security < 32 }
     ensures { Holders accounts (book_of b.now).holdings security result }
 {
     let s = security as usize;
@@ -46,8 +46,8 @@ fn none_held(held: [u64; 64]) -> bool
 // Due deliverers, by ascending number, give the smaller of their shares and what the account still holds: what was given
 // before is taken off a table of what the accounts hold. Most records are done with when their number has been compared;
 // where nothing is held, none is looked at.
-pub fn deliverable_of(b: &[u8], security: u8) -> Quantity
-    requires { (length b.now ≡ book_length) × (sound (book_of b.now) ≡ true) × (security < 32) }
+pub fn deliverable_of(b: &BookBytes, security: u8) -> Quantity
+    requires { (sound (book_of b.now) ≡ true) × (security < 32) }
     ensures { (result.0 ≡ deliverable (book_of b.now) security) × (result.0 ≤ most_records * most_shares) }
 {
     let day = day_at(b);
@@ -75,8 +75,8 @@ pub fn deliverable_of(b: &[u8], security: u8) -> Quantity
 }
 
 // The receivers' total.
-pub fn wanted_of(b: &[u8], security: u8) -> Quantity
-    requires { (length b.now ≡ book_length) × (sound (book_of b.now) ≡ true) }
+pub fn wanted_of(b: &BookBytes, security: u8) -> Quantity
+    requires { sound (book_of b.now) ≡ true }
     ensures { result.0 ≡ wanted (book_of b.now) security }
 {
     let day = day_at(b);

@@ -5,7 +5,7 @@ ghost use Rattle.rules.specs.Book.{account_of, holding_at};
 ghost use Rattle.rules.specs.Layout.{book_length, book_of};
 ghost use Rattle.laws.specs.Walk.{is_due_in, owes, wants};
 
-use book::holding_at;
+use book::{BookBytes, holding_at};
 use rules::Position;
 use sound_positions::{account_of, is_due, security_of};
 use units::Quantity;
@@ -69,8 +69,8 @@ pub fn smaller(a: Quantity, b: Quantity) -> Quantity
 
 // What a giver has left to give: its shares, or what its account holds if that is less. The holding is read only where
 // shares are owed.
-pub fn gives_of(b: &[u8], day: u16, security: u8, giver: Position) -> Quantity
-    requires { (length b.now ≡ book_length) × (security < 32) }
+pub fn gives_of(b: &BookBytes, day: u16, security: u8, giver: Position) -> Quantity
+    requires { security < 32 }
     ensures { result.0 ≡ min (owes day security giver) (get_or (book_of b.now).holdings (holding_at (account_of giver) security) 0) }
 {
     let owed = owes_of(day, security, giver);

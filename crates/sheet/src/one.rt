@@ -13,9 +13,7 @@ pub(crate) fn put_one(buffer: &mut [u8], write: bool, t: Tally, l: Line) -> Tall
 {
     if write {
         let at = t.bytes as usize;
-        let written = put_counted(&mut buffer[at..], l, t);
-        return written.tally;
+        return put_counted(&mut buffer[at..], l, t).unwrap_or(t);
     }
-    let counted = count_line(1_000_000, l, t);
-    counted.tally
+    count_line(1_000_000, l, t).unwrap_or(t)
 }

@@ -10,32 +10,15 @@ ghost use Rattle.rules.specs.Sheet.{text_of, refused_sheet, sheet_of, sheet_answ
 ghost use Rattle.sheet_laws.specs.Bounded.{most_bytes};
 ghost use Rattle.sheets.specs.Sheets.{Printed, Written, Room, room_for_answers};
 
-use book::BOOK_BYTES;
+use book::{BOOK_BYTES, BookBytes};
 use book_whole::{load, store};
 use fields::get;
 use playing::play_records;
 use playing_records::count_answers;
-use rules::Book;
+use rules::{Book, Refusal};
 use sheet::{put_refused, put_sheet, refused_width, sheet_width};
 
-// The number of the answer, and how long the sheet is.
-#[derive(Drop)]
-pub struct SheetAnswer {
-    pub number: u8,
-    pub size: usize,
-}
-
-fn refused() -> SheetAnswer
-    ensures { (result.number ≡ 18) × (result.size ≡ 0) }
-{
-    SheetAnswer {
-        number: 18,
-        size: 0,
-    }
-}
-
-fn store_if(exists: bool, k: Book, book: &mut [u8])
-    requires { length book.old ≡ book_length }
+fn store_if(exists: bool, k: Book, book: &mut BookBytes)
     ensures { book.new ≡ cond exists (bytes_of k) book.old }
 {
     if exists {
@@ -44,64 +27,57 @@ fn store_if(exists: bool, k: Book, book: &mut [u8])
 }
 
 // "A file refused by 18 gives R 0 18 and E 1."
-fn refused_sheet(buffer: &mut [u8]) -> SheetAnswer
-    ensures { Printed (each text_of refused_sheet) buffer.old result.number result.size buffer.new }
+fn refused_sheet(buffer: &mut [u8]) -> Result<usize, Refusal>
+    ensures { Printed (each text_of refused_sheet) buffer.old (answered result) (value_or 0 result) buffer.new }
 {
     if buffer.len() < refused_width() {
-        return refused();
+        return Err(Refusal::Length);
     }
-    let size = put_refused(buffer);
-    SheetAnswer {
-        number: 0,
-        size: size,
-    }
+    Ok(put_refused(buffer))
 }
 
 // The sheet of a file, from what it has left in a room and among the answers: the first answer is that of the create,
 // and says whether a book exists.
 fn put_played(
-    room: &[u8],
+    room: &BookBytes,
     answers: &[u8],
     file: &[u8],
-    book: &mut [u8],
+    book: &mut BookBytes,
     buffer: &mut [u8],
-) -> SheetAnswer
-    requires { (length book.old ≡ book_length) × (length file.now ≤ most_file) × Room file.now room.now answers.now }
-    ensures { Written file.now book.old buffer.old result.number result.size book.new buffer.new }
+) -> Result<usize, Refusal>
+    requires { (length file.now ≤ most_file) × Room file.now room.now answers.now }
+    ensures { Written file.now book.old buffer.old (answered result) (value_or 0 result) book.new buffer.new }
 {
     let exists = get(answers, 0, 1) == 0;
     let count = count_answers(file);
     let k = load(room);
     if buffer.len() < sheet_width(answers, count, exists, k) {
-        return refused();
+        return Err(Refusal::Length);
     }
     let size = put_sheet(answers, count, exists, k, buffer);
     store_if(exists, k, book);
-    SheetAnswer {
-        number: 0,
-        size: size,
-    }
+    Ok(size)
 }
 
 // A file is played in a lent room, and its sheet written.
 fn sheet_in(
-    room: &mut [u8],
+    room: &mut BookBytes,
     answers: &mut [u8],
     file: &[u8],
-    book: &mut [u8],
+    book: &mut BookBytes,
     buffer: &mut [u8],
-) -> SheetAnswer
-    requires { (length room.old ≡ book_length) × (length answers.old ≡ room_for_answers) × (length book.old ≡ book_length) × (length file.now ≤ most_file) }
-    ensures { Written file.now book.old buffer.old result.number result.size book.new buffer.new }
+) -> Result<usize, Refusal>
+    requires { (length answers.old ≡ room_for_answers) × (length file.now ≤ most_file) }
+    ensures { Written file.now book.old buffer.old (answered result) (value_or 0 result) book.new buffer.new }
 {
     play_records(room, file, answers);
     put_played(room, answers, file, book, buffer)
 }
 
 // The sheet of a file of at most 65,535 bytes: these have at most 21,846 answers of 9 bytes. (A big array is lent once: each loan of it by its length costs.)
-fn played_sheet(book: &mut [u8], file: &[u8], buffer: &mut [u8]) -> SheetAnswer
-    requires { (length book.old ≡ book_length) × (length file.now ≤ most_file) }
-    ensures { Written file.now book.old buffer.old result.number result.size book.new buffer.new }
+fn played_sheet(book: &mut BookBytes, file: &[u8], buffer: &mut [u8]) -> Result<usize, Refusal>
+    requires { length file.now ≤ most_file }
+    ensures { Written file.now book.old buffer.old (answered result) (value_or 0 result) book.new buffer.new }
 {
     let mut room = [0u8; 42278];
     let mut answers = [0u8; 196614];
@@ -109,16 +85,14 @@ fn played_sheet(book: &mut [u8], file: &[u8], buffer: &mut [u8]) -> SheetAnswer
 }
 
 // 18: the book has another length, or the sheet does not fit. Then nothing is altered.
-pub fn sheet(book: &mut [u8], file: &[u8], buffer: &mut [u8]) -> SheetAnswer
-    ensures { (result.number ≡ sheet_answer book.old file.now buffer.old)
-        × (result.size ≡ sheet_size book.old file.now buffer.old)
+pub fn sheet(book: &mut [u8], file: &[u8], buffer: &mut [u8]) -> Result<usize, Refusal>
+    ensures { (answered result ≡ sheet_answer book.old file.now buffer.old)
+        × (value_or 0 result ≡ sheet_size book.old file.now buffer.old)
         × (buffer.new ≡ sheet_bytes book.old file.now buffer.old)
         × (book.new ≡ sheet_book book.old file.now buffer.old)
-        × (result.size ≤ length buffer.old) }
+        × (value_or 0 result ≤ length buffer.old) }
 {
-    if book.len() != BOOK_BYTES {
-        return refused();
-    }
+    let book = book.as_mut_array().ok_or(Refusal::Length)?;
     if file.len() > 65_535 {
         return refused_sheet(buffer);
     }
@@ -132,8 +106,7 @@ pub fn sheet_of(file: &[u8], buffer: &mut [u8]) -> usize
         × (buffer.new ≡ sheet_of file.now ++ drop (length (sheet_of file.now)) buffer.old) }
 {
     let mut book = [0u8; 42278];
-    let answer = sheet(&mut book, file, buffer);
-    answer.size
+    sheet(&mut book, file, buffer).unwrap()
 }
 
 // The same with the part handed back: all of the sheet, from the front of the buffer.

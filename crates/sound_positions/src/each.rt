@@ -9,7 +9,7 @@ ghost use Rattle.sound_positions.specs.Each.{record_fits, each_fits};
 
 use crate::due::{day_fits, nonzero_if_due};
 use crate::sizes::size_fits;
-use book::{day_at, position_at, records_at};
+use book::{BookBytes, day_at, position_at, records_at};
 use rules::Position;
 
 fn record_fits(day: u16, p: Position) -> bool
@@ -25,8 +25,8 @@ fn record_fits(day: u16, p: Position) -> bool
 }
 
 // A record's number is at least one above that of the record before it; the first may have any.
-pub fn each_fits(b: &[u8]) -> bool
-    requires { (length b.now ≡ book_length) × ((book_of b.now).records ≤ most_records) }
+pub fn each_fits(b: &BookBytes) -> bool
+    requires { (book_of b.now).records ≤ most_records }
     ensures { result ≡ ascends (open_of (book_of b.now)) && each_fits (book_of b.now) }
 {
     let day = day_at(b);

@@ -6,7 +6,7 @@ ghost use Rattle.rules.specs.Layout.{book_length, book_of};
 ghost use Rattle.rules.specs.Sound.{is_blank};
 ghost use Rattle.sound_positions.specs.Each.{room_fits};
 
-use book::{position_at, records_at};
+use book::{BookBytes, position_at, records_at};
 use rules::Position;
 
 fn is_blank(p: Position) -> bool
@@ -24,8 +24,8 @@ fn is_blank(p: Position) -> bool
 }
 
 // All the room behind the records, to the end of the table.
-fn unused_blank(b: &[u8]) -> bool
-    requires { (length b.now ≡ book_length) × ((book_of b.now).records ≤ most_records) }
+fn unused_blank(b: &BookBytes) -> bool
+    requires { (book_of b.now).records ≤ most_records }
     ensures { result ≡ all is_blank (drop (book_of b.now).records (book_of b.now).positions) }
 {
     let mut row = records_at(b) as usize;
@@ -39,8 +39,7 @@ fn unused_blank(b: &[u8]) -> bool
     true
 }
 
-pub fn room_fits(b: &[u8]) -> bool
-    requires { length b.now ≡ book_length }
+pub fn room_fits(b: &BookBytes) -> bool
     ensures { result ≡ room_fits (book_of b.now) }
 {
     if records_at(b) > 1024 {

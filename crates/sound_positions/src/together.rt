@@ -12,12 +12,12 @@ use crate::balance::{sums_zero, with_quantity};
 use crate::due::is_due;
 use crate::number::security_of;
 use crate::signs::{note_sign, sign_fits};
-use book::{day_at, position_at, records_at};
+use book::{BookBytes, day_at, position_at, records_at};
 use units::{Shares, Whole};
 
 // Comparing each due record with each other would take half a million turns for a full table.
-pub fn together_fit(b: &[u8]) -> bool
-    requires { (length b.now ≡ book_length) × (((book_of b.now).records ≤ most_records) × (each_fits (book_of b.now) ≡ true)) }
+pub fn together_fit(b: &BookBytes) -> bool
+    requires { ((book_of b.now).records ≤ most_records) × (each_fits (book_of b.now) ≡ true) }
     ensures { result ≡ one_sign (keep (is_due (book_of b.now).day) (open_of (book_of b.now))) && due_balanced (book_of b.now) }
 {
     let day = day_at(b);

@@ -3,10 +3,9 @@ ghost use Rattle.std.specs.Prelude.{◌≡◌, length};
 ghost use Rattle.rules.specs.Layout.{book_length, book_of};
 ghost use Rattle.rules.specs.Sound.{day_fits};
 
-use book::day_at;
+use book::{BookBytes, day_at};
 
-pub fn day_fits(b: &[u8]) -> bool
-    requires { length b.now ≡ book_length }
+pub fn day_fits(b: &BookBytes) -> bool
     ensures { result ≡ day_fits (book_of b.now) }
 {
     day_at(b) <= 60_000

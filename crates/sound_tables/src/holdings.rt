@@ -6,12 +6,12 @@ ghost use Rattle.rules.specs.Layout.{book_length, book_of};
 ghost use Rattle.rules.specs.Sound.{total_held};
 ghost use Rattle.sound_tables.specs.Held.{most_of, held_fits};
 
-use book::{code_at, holding_at};
+use book::{BookBytes, code_at, holding_at};
 
 // What all accounts hold of a security is at most this. What is left of it goes down account by account, so that no sum
 // passes 64 bits, whatever the bytes are.
-pub fn total_fits(b: &[u8], security: usize, most: u64) -> bool
-    requires { (length b.now ≡ book_length) × (security < securities) }
+pub fn total_fits(b: &BookBytes, security: usize, most: u64) -> bool
+    requires { security < securities }
     ensures { result ≡ leb (total_held (book_of b.now).holdings security) most }
 {
     let mut left = most;
@@ -37,8 +37,7 @@ fn most_of(code: u8) -> u64
     1_000_000_000_000
 }
 
-pub fn holdings_fit(b: &[u8]) -> bool
-    requires { length b.now ≡ book_length }
+pub fn holdings_fit(b: &BookBytes) -> bool
     ensures { result ≡ held_fits (book_of b.now) }
 {
     let mut s: usize = 0;

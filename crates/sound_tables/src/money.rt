@@ -8,14 +8,14 @@ ghost use Rattle.rules.specs.Sound.{money_fits};
 ghost use Rattle.sound_tables.specs.Placed.{all_from, sum_at};
 ghost use Rattle.sound_tables.specs.Stakes.{MoneyAsks, place_of, size_of, Sums, stake_fits};
 
-use book::{charge_at, code_at, position_at, records_at};
+use book::{BookBytes, charge_at, code_at, position_at, records_at};
 use rules::Position;
 use sound_positions::{account_of, security_of};
 use units::{Amount, Mils};
 
 // Where the money of a position counts: account * 4 + currency.
-fn place_of(b: &[u8], p: Position) -> usize
-    requires { (length b.now ≡ book_length) × (currency_of (book_of b.now) (security_of p) < currencies) }
+fn place_of(b: &BookBytes, p: Position) -> usize
+    requires { currency_of (book_of b.now) (security_of p) < currencies }
     ensures { (result ≡ place_of (book_of b.now) p) × (result < 256) }
 {
     let a = account_of(p);
@@ -35,8 +35,8 @@ fn with_money(sum: Amount, p: Position) -> Amount
 }
 
 // The sizes of open money of each account and currency, in one pass over the records.
-fn open_money(b: &[u8]) -> [Amount; 256]
-    requires { (length b.now ≡ book_length) × MoneyAsks (book_of b.now) }
+fn open_money(b: &BookBytes) -> [Amount; 256]
+    requires { MoneyAsks (book_of b.now) }
     ensures { Sums (book_of b.now) result × ((x : ℕ) → x < 256 → sum_at result x ≤ most_at_stake) }
 {
     let n = records_at(b) as usize;
@@ -62,8 +62,8 @@ fn stake_fits(charge: Mils, money: Amount) -> bool
     size.0 <= room
 }
 
-fn charges_fit(b: &[u8], sums: [Amount; 256]) -> bool
-    requires { (length b.now ≡ book_length) × ((x : ℕ) → x < 256 → sum_at sums x ≤ most_at_stake) }
+fn charges_fit(b: &BookBytes, sums: [Amount; 256]) -> bool
+    requires { (x : ℕ) → x < 256 → sum_at sums x ≤ most_at_stake }
     ensures { result ≡ all_from (stake_fits sums) 0 (book_of b.now).charges }
 {
     let mut i: usize = 0;
@@ -78,8 +78,8 @@ fn charges_fit(b: &[u8], sums: [Amount; 256]) -> bool
     true
 }
 
-pub fn money_fits(b: &[u8]) -> bool
-    requires { (length b.now ≡ book_length) × MoneyAsks (book_of b.now) }
+pub fn money_fits(b: &BookBytes) -> bool
+    requires { MoneyAsks (book_of b.now) }
     ensures { result ≡ money_fits (book_of b.now) }
 {
     let sums = open_money(b);

@@ -6,7 +6,7 @@ ghost use Rattle.rules.specs.Layout.{book_length, book_of};
 ghost use Rattle.rules.specs.Sound.{distinct};
 ghost use Rattle.sound_tables.specs.Flags.{flag_at, raised};
 
-use book::{entries_at, trade_at};
+use book::{BookBytes, entries_at, trade_at};
 
 // Raises the flag of a number, and says whether it was down. The caller learns that the number has a flag.
 fn first_use(used: &mut [u64; 1024], number: u16) -> bool
@@ -22,8 +22,8 @@ fn first_use(used: &mut [u64; 1024], number: u16) -> bool
     !up
 }
 
-pub fn numbers_distinct(b: &[u8]) -> bool
-    requires { (length b.now ≡ book_length) × ((book_of b.now).entries ≤ most_trades) }
+pub fn numbers_distinct(b: &BookBytes) -> bool
+    requires { (book_of b.now).entries ≤ most_trades }
     ensures { result ≡ distinct (map (λ t. t.number) (list_of (book_of b.now))) }
 {
     let mut used = [0u64; 1024];

@@ -10,7 +10,7 @@ ghost use Rattle.laws.specs.Listed.{listable};
 
 use crate::faults::{bad_accounts, bad_price, bad_quantity, bad_security, same_account};
 use crate::numbers::numbers_distinct;
-use book::{codes_of, entries_at, trade_at};
+use book::{BookBytes, codes_of, entries_at, trade_at};
 use rules::Trade;
 
 // None of the faults, in any book with these codes.
@@ -73,8 +73,8 @@ fn blank_trade(t: Trade) -> bool
     zero_fields(t)
 }
 
-fn all_listable(b: &[u8]) -> bool
-    requires { (length b.now ≡ book_length) × ((book_of b.now).entries ≤ most_trades) }
+fn all_listable(b: &BookBytes) -> bool
+    requires { (book_of b.now).entries ≤ most_trades }
     ensures { result ≡ all (listable (book_of b.now)) (list_of (book_of b.now)) }
 {
     let codes = codes_of(b);
@@ -91,8 +91,8 @@ fn all_listable(b: &[u8]) -> bool
 }
 
 // "Unused room is zero."
-fn rest_blank(b: &[u8]) -> bool
-    requires { (length b.now ≡ book_length) × ((book_of b.now).entries ≤ most_trades) }
+fn rest_blank(b: &BookBytes) -> bool
+    requires { (book_of b.now).entries ≤ most_trades }
     ensures { result ≡ all (λ t. eqb t.number 0 && zero_fields t) (drop (book_of b.now).entries (book_of b.now).trades) }
 {
     let mut row = entries_at(b) as usize;
@@ -106,8 +106,7 @@ fn rest_blank(b: &[u8]) -> bool
     true
 }
 
-pub fn trades_fit(b: &[u8]) -> bool
-    requires { length b.now ≡ book_length }
+pub fn trades_fit(b: &BookBytes) -> bool
     ensures { result ≡ trades_fit (book_of b.now) }
 {
     if entries_at(b) > 256 {

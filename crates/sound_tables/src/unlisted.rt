@@ -5,20 +5,19 @@ ghost use Rattle.rules.specs.Bounds.{most_records};
 ghost use Rattle.rules.specs.Book.{security_of, open_of, unlisted};
 ghost use Rattle.rules.specs.Layout.{book_length, book_of};
 
-use book::{code_at, position_at, records_at};
+use book::{BookBytes, code_at, position_at, records_at};
 use rules::Position;
 use sound_positions::security_of;
 
-fn is_listed(b: &[u8], p: Position) -> bool
-    requires { length b.now ≡ book_length }
+fn is_listed(b: &BookBytes, p: Position) -> bool
     ensures { result ≡ not (unlisted (book_of b.now) (security_of p)) }
 {
     let s = security_of(p);
     code_at(b, s) != 255
 }
 
-pub fn records_listed(b: &[u8]) -> bool
-    requires { (length b.now ≡ book_length) × ((book_of b.now).records ≤ most_records) }
+pub fn records_listed(b: &BookBytes) -> bool
+    requires { (book_of b.now).records ≤ most_records }
     ensures { result ≡ all (λ p. not (unlisted (book_of b.now) (security_of p))) (open_of (book_of b.now)) }
 {
     let n = records_at(b) as usize;

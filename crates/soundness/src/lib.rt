@@ -8,11 +8,10 @@ ghost use Rattle.rules.specs.Layout.{book_length, book_of};
 ghost use Rattle.rules.specs.Sound.{sound, not_sound};
 ghost use Rattle.soundness.specs.Clauses.{positions_fit};
 
-use book::{BOOK_BYTES, codes_of};
+use book::{BookBytes, codes_of};
 
 // The sentences about the position table alone.
-fn positions_fit(b: &[u8]) -> bool
-    requires { length b.now ≡ book_length }
+fn positions_fit(b: &BookBytes) -> bool
     ensures { result ≡ positions_fit (book_of b.now) }
 {
     if !sound_positions::room_fits(b) {
@@ -24,8 +23,7 @@ fn positions_fit(b: &[u8]) -> bool
     sound_positions::together_fit(b)
 }
 
-pub fn is_sound(b: &[u8]) -> bool
-    requires { length b.now ≡ book_length }
+pub fn is_sound(b: &BookBytes) -> bool
     ensures { result ≡ sound (book_of b.now) }
 {
     if !sound_tables::day_fits(b) {
@@ -54,8 +52,29 @@ pub fn is_sound(b: &[u8]) -> bool
 pub fn not_sound(b: &[u8]) -> bool
     ensures { result ≡ not_sound b.now }
 {
-    if b.len() != BOOK_BYTES {
-        return true;
+    match b.as_array() {
+        Some(book) => !is_sound(book),
+        None => true,
     }
-    !is_sound(b)
+}
+
+// The sound book that lent bytes are, to be read where it stands,
+pub fn sound_book(b: &[u8]) -> Option<&BookBytes>
+    ensures { MatchOption result (not_sound b.now ≡ true) (λ book. (book.now ≡ b.now) × (not_sound b.now ≡ false)) }
+{
+    if not_sound(b) {
+        return None;
+    }
+    b.as_array()
+}
+
+// and to be altered there.
+pub fn sound_book_mut(b: &mut [u8]) -> Option<&mut BookBytes>
+    ensures* writes_back { sem 𝓛 (LendsIf (Array byte 0) (Array byte 0) b.entry result (λ ws. ws) b.old) }
+    ensures value { MatchOption result (not_sound b.old ≡ true) (λ book. (book.now ≡ b.old) × (not_sound b.old ≡ false)) }
+{
+    if not_sound(b) {
+        return None;
+    }
+    b.as_mut_array()
 }

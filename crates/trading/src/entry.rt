@@ -8,13 +8,13 @@ ghost use Rattle.rules.specs.Sound.{trades_fit};
 ghost use Rattle.rules.specs.Trades.{excluded_trade, replaced};
 ghost use Rattle.rules.specs.Calls.{enter, amend, exclude, after};
 
-use book::{entries_at, put_list, trades_of};
+use book::{BookBytes, entries_at, put_list, trades_of};
 use rules::Trade;
 use units::Price;
 
 // The trade stands last in the list: the first unused row is the one behind it.
-pub fn put_entered(b: &mut [u8], t: Trade)
-    requires { (length b.old ≡ book_length) × (((book_of b.old).entries < most_trades) × (trades_fit (book_of b.old) ≡ true)) }
+pub fn put_entered(b: &mut BookBytes, t: Trade)
+    requires { ((book_of b.old).entries < most_trades) × (trades_fit (book_of b.old) ≡ true) }
     ensures { b.new ≡ bytes_of (after (book_of b.old) (enter t)) }
 {
     let n = entries_at(b);
@@ -49,8 +49,8 @@ fn renewed_rows(rows: [Trade; 256], n: usize, number: u16, t: Trade) -> [Trade; 
 }
 
 // The trade of that number replaced by `t`, in its place.
-fn put_replaced(b: &mut [u8], number: u16, t: Trade)
-    requires { (length b.old ≡ book_length) × (trades_fit (book_of b.old) ≡ true) }
+fn put_replaced(b: &mut BookBytes, number: u16, t: Trade)
+    requires { trades_fit (book_of b.old) ≡ true }
     ensures { b.new ≡ bytes_of (with_list (book_of b.old) (replaced (list_of (book_of b.old)) number t)) }
 {
     let n = entries_at(b);
@@ -60,8 +60,8 @@ fn put_replaced(b: &mut [u8], number: u16, t: Trade)
 }
 
 // Every field but the number is replaced; the trade keeps its place.
-pub fn put_amended(b: &mut [u8], t: Trade)
-    requires { (length b.old ≡ book_length) × (trades_fit (book_of b.old) ≡ true) }
+pub fn put_amended(b: &mut BookBytes, t: Trade)
+    requires { trades_fit (book_of b.old) ≡ true }
     ensures { b.new ≡ bytes_of (after (book_of b.old) (amend t)) }
 {
     put_replaced(b, t.number, t);
@@ -81,8 +81,8 @@ fn excluded_trade(number: u16) -> Trade
     }
 }
 
-pub fn put_excluded(b: &mut [u8], number: u16)
-    requires { (length b.old ≡ book_length) × (trades_fit (book_of b.old) ≡ true) }
+pub fn put_excluded(b: &mut BookBytes, number: u16)
+    requires { trades_fit (book_of b.old) ≡ true }
     ensures { b.new ≡ bytes_of (after (book_of b.old) (exclude number)) }
 {
     let t = excluded_trade(number);

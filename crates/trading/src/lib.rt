@@ -7,4 +7,4 @@ mod list;
 mod refusals;
 
 pub use entry::{put_amended, put_entered, put_excluded};
-pub use refusals::{amend_refusal, enter_refusal, exclude_refusal};
+pub use refusals::{may_amend, may_enter, may_exclude};

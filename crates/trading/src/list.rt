@@ -5,12 +5,12 @@ ghost use Rattle.rules.specs.Book.{list_of};
 ghost use Rattle.rules.specs.Layout.{book_length, book_of};
 ghost use Rattle.rules.specs.Trades.{is_excluded, used, stands};
 
-use book::{entries_at, trade_at};
+use book::{BookBytes, entries_at, trade_at};
 use rules::Trade;
 
 // An excluded trade keeps its number, so that one counts too: a number is used once a day.
-pub(crate) fn is_used(b: &[u8], number: u16) -> bool
-    requires { (length b.now ≡ book_length) × ((book_of b.now).entries ≤ most_trades) }
+pub(crate) fn is_used(b: &BookBytes, number: u16) -> bool
+    requires { (book_of b.now).entries ≤ most_trades }
     ensures { result ≡ used number (list_of (book_of b.now)) }
 {
     let n = entries_at(b) as usize;
@@ -36,8 +36,8 @@ fn stands_as(t: Trade, number: u16) -> bool
 }
 
 // In the list and not excluded.
-pub(crate) fn is_standing(b: &[u8], number: u16) -> bool
-    requires { (length b.now ≡ book_length) × ((book_of b.now).entries ≤ most_trades) }
+pub(crate) fn is_standing(b: &BookBytes, number: u16) -> bool
+    requires { (book_of b.now).entries ≤ most_trades }
     ensures { result ≡ stands number (list_of (book_of b.now)) }
 {
     let n = entries_at(b) as usize;
