@@ -1,33 +1,28 @@
 -- The quotient and the remainder of a * b by d, or that the quotient passes the limit.
-use Rattle.std.specs.Prelude.{◌≡◌, refl, Bool, true, false, ℕ, ◌+◌, ◌*◌, ◌/◌, ◌%◌, ◌≤◌, ◌<◌, leb, ltb}
+use Rattle.std.specs.Prelude.{◌≡◌, refl, Bool, true, false, cond, Option, Some, None, ℕ, ◌+◌, ◌*◌, ◌/◌, ◌%◌, ◌≤◌, ◌<◌, leb, ltb}
 use Rattle.std.proofs.Common.{sym, ap, ◌∙◌, div-add-mod', mod-lt, mul-le-mul_left, mul-le-mul_right, le_trans, lt_of_lt_of_le, div-mul-le_self, le-div_iff_mul-le, div-lt_iff_lt-mul, arith, le-leb, leb-true, leb-false, lt-ltb, le-ltb, ltb-true, ltb-false}
 use Rattle.std.proofs.Math.Nat.{lt-mul-div-succ, mul-div-le}
 use Rattle.std.proofs.Math.Arith.{digits_div, digits_mod}
-use Rattle.std.proofs.lemmas.Bool.{lt-leb}
-use Rattle.exact.specs.declared.MulDiv.{MulDiv}
-use Rattle.exact.specs.declared.MulDiv.TheVariants.{Done, TooBig}
+use Rattle.std.proofs.lemmas.Bool.{lt-leb, cond-true, cond-false}
+use Rattle.std.proofs.lemmas.Option.{none-some, some_pair_parts}
 
 -- the house's limit on converted totals, 9*10^18 (document 01, refusal 16); below 2^63
 abbrev pub limit : ℕ
 limit = 9000000000000000000
 
-abbrev pub pick : Bool → MulDiv → MulDiv → MulDiv
-pick true x y = x
-pick false x y = y
-
-unfoldable pub mul_div : ℕ → ℕ → ℕ → MulDiv
-mul_div a b d = pick (leb (a * b / d) limit) (Done (a * b / d) (a * b % d)) TooBig
+unfoldable pub mul_div : ℕ → ℕ → ℕ → Option (ℕ × ℕ)
+mul_div a b d = cond (leb (a * b / d) limit) (Some (a * b / d, a * b % d)) None
 
 pub record Divisor (d : ℕ) : Type 0 where
   pub some : 0 < d
   pub small : d ≤ 140737488355328
 
 -- ---- to make one
-pub is_big : (a b d : ℕ) → limit < a * b / d → TooBig ≡ mul_div a b d
+pub is_big : (a b d : ℕ) → limit < a * b / d → None ≡ mul_div a b d
 unfolding mul_div
 is_big a b d h = rw (lt-leb (a * b / d) limit h)
 
-pub is_done : (a b d q r : ℕ) → 0 < d → q * d + r ≡ a * b → r < d → q ≤ limit → Done q r ≡ mul_div a b d
+pub is_done : (a b d q r : ℕ) → 0 < d → q * d + r ≡ a * b → r < d → q ≤ limit → Some (q, r) ≡ mul_div a b d
 unfolding mul_div
 is_done a b d q r p e h k =
     let f : a * b / d ≡ q = ap (λ (n : ℕ). n / d) (sym e) ∙ digits_div q h in
@@ -40,30 +35,25 @@ pub record IsDone (a b d q r : ℕ) : Type 0 where
   pub rest : r ≡ a * b % d
   pub within : q ≤ limit
 
-pub done_is : (a b d q r : ℕ) → Done q r ≡ mul_div a b d → IsDone a b d q r
+pub done_is : (a b d q r : ℕ) → Some (q, r) ≡ mul_div a b d → IsDone a b d q r
 unfolding mul_div
 done_is a b d q r e = go (leb (a * b / d) limit) refl
   where
     go : (t : Bool) → leb (a * b / d) limit ≡ t → IsDone a b d q r
     go true u =
-        let e' : Done q r ≡ Done (a * b / d) (a * b % d) = e ∙ ap (λ (t : Bool). pick t (Done (a * b / d) (a * b % d)) TooBig) u in
-        let f : q ≡ a * b / d = cc in
-        record { quotient = f; rest = cc; within = omega (arith, leb-true (a * b / d) limit u) }
+        let parts = some_pair_parts q (a * b / d) r (a * b % d) (e ∙ cond-true _ (Some (a * b / d, a * b % d)) None u) in
+        record { quotient = parts.0; rest = parts.1; within = omega (arith, parts.0, leb-true (a * b / d) limit u) }
     go false u =
-        let e' : Done q r ≡ TooBig = e ∙ ap (λ (t : Bool). pick t (Done (a * b / d) (a * b % d)) TooBig) u in
-        let z : ◌≡◌ {A = ℕ} 0 1 = cc in
-        absurd (omega arith)
+        absurd (none-some (q, r) (sym (e ∙ cond-false _ (Some (a * b / d, a * b % d)) None u)))
 
-pub big_is : (a b d : ℕ) → TooBig ≡ mul_div a b d → limit < a * b / d
+pub big_is : (a b d : ℕ) → None ≡ mul_div a b d → limit < a * b / d
 unfolding mul_div
 big_is a b d e = go (leb (a * b / d) limit) refl
   where
     go : (t : Bool) → leb (a * b / d) limit ≡ t → limit < a * b / d
     go false u = leb-false (a * b / d) limit u
     go true u =
-        let e' : TooBig ≡ Done (a * b / d) (a * b % d) = e ∙ ap (λ (t : Bool). pick t (Done (a * b / d) (a * b % d)) TooBig) u in
-        let z : ◌≡◌ {A = ℕ} 0 1 = cc in
-        absurd (omega arith)
+        absurd (none-some (a * b / d, a * b % d) (e ∙ cond-true _ (Some (a * b / d, a * b % d)) None u))
 
 -- ---- one digit more
 pub record Digits (a d w q r : ℕ) : Type 0 where
@@ -113,10 +103,10 @@ over_is n g x p = go (ltb (n / g) x) refl
     go true u = sym (lt-ltb n (g * x) (past n g x p (ltb-true (n / g) x u)))
     go false u = sym (le-ltb n (g * x) (not_past n g x (ltb-false (n / g) x u)))
 
-pub zero_is : (a d : ℕ) → 0 < d → Done 0 0 ≡ mul_div a 0 d
+pub zero_is : (a d : ℕ) → 0 < d → Some (0, 0) ≡ mul_div a 0 d
 zero_is a d p = is_done a 0 d 0 0 p (omega arith) p (omega arith)
 
-pub digits_of : (a d w q r : ℕ) → Divisor d → Done q r ≡ mul_div a (w / 65536) d → Digits a d w q r
+pub digits_of : (a d w q r : ℕ) → Divisor d → Some (q, r) ≡ mul_div a (w / 65536) d → Digits a d w q r
 digits_of a d w q r h e =
     let k = done_is a (w / 65536) d q r e in
     record {

@@ -1,12 +1,9 @@
 -- A quotient rounded down or up, said once for any divisor, and the same up to the limit.
-use Rattle.std.specs.Prelude.{◌≡◌, refl, Bool, true, false, ℕ, zero, suc, ◌+◌, ◌*◌, ◌-◌, ◌/◌, ◌%◌, ◌≤◌, ◌<◌, leb}
+use Rattle.std.specs.Prelude.{◌≡◌, refl, cond, Option, Some, None, ℕ, zero, suc, ◌+◌, ◌*◌, ◌-◌, ◌/◌, ◌%◌, ◌≤◌, ◌<◌, leb}
 use Rattle.std.proofs.Common.{sym, ap, ◌∙◌, div-add-mod', mod-lt, le_trans, lt_of_lt_of_le, div-mul-le_self, le-div_iff_mul-le, arith, le-leb}
 use Rattle.std.proofs.Math.Arith.{digits_div}
 use Rattle.std.proofs.lemmas.Bool.{lt-leb}
 use Rattle.exact.specs.MulDiv.{limit, mul_div, big_is, done_is}
-use Rattle.exact.specs.declared.MulDiv.TheVariants.{Done, TooBig}
-use Rattle.exact.specs.declared.Rounded.{Rounded}
-use Rattle.exact.specs.declared.Rounded.TheVariants.{To, Past}
 
 abbrev pub round_down : ℕ → ℕ → ℕ
 round_down n d = n / d
@@ -14,19 +11,15 @@ round_down n d = n / d
 abbrev pub round_up : ℕ → ℕ → ℕ
 round_up n d = (n + (d - 1)) / d
 
-abbrev pub pick_s : Bool → Rounded → Rounded → Rounded
-pick_s true x y = x
-pick_s false x y = y
-
 -- a number up to the limit, or that it is past it
-unfoldable pub capped : ℕ → Rounded
-capped n = pick_s (leb n limit) (To n) Past
+unfoldable pub capped : ℕ → Option ℕ
+capped n = cond (leb n limit) (Some n) None
 
-pub capped_whole : (n : ℕ) → n ≤ limit → capped n ≡ To n
+pub capped_whole : (n : ℕ) → n ≤ limit → capped n ≡ Some n
 unfolding capped
 capped_whole n h = rw (le-leb n limit h)
 
-pub capped_past : (n : ℕ) → limit < n → capped n ≡ Past
+pub capped_past : (n : ℕ) → limit < n → capped n ≡ None
 unfolding capped
 capped_past n h = rw (lt-leb n limit h)
 
@@ -64,18 +57,18 @@ raised_more q zero h = absurd (omega arith)
 raised_more q (suc r) h = refl
 
 -- ---- from the quotient and the remainder of a product
-pub down_past : (a b d : ℕ) → TooBig ≡ mul_div a b d → Past ≡ capped (round_down (a * b) d)
+pub down_past : (a b d : ℕ) → None ≡ mul_div a b d → None ≡ capped (round_down (a * b) d)
 down_past a b d e = sym (capped_past (a * b / d) (big_is a b d e))
 
-pub down_whole : (a b d q r : ℕ) → Done q r ≡ mul_div a b d → To q ≡ capped (round_down (a * b) d)
+pub down_whole : (a b d q r : ℕ) → Some (q, r) ≡ mul_div a b d → Some q ≡ capped (round_down (a * b) d)
 down_whole a b d q r e =
     let k = done_is a b d q r e in
     rw (← k.quotient) (sym (capped_whole q k.within))
 
-pub up_past : (a b d : ℕ) → 0 < d → TooBig ≡ mul_div a b d → Past ≡ capped (round_up (a * b) d)
+pub up_past : (a b d : ℕ) → 0 < d → None ≡ mul_div a b d → None ≡ capped (round_up (a * b) d)
 up_past a b d p e = sym (capped_past (round_up (a * b) d) (lt_of_lt_of_le (big_is a b d e) (up_least (a * b) d p)))
 
-pub up_whole : (a b d q r : ℕ) → 0 < d → Done q r ≡ mul_div a b d → capped (raised q r) ≡ capped (round_up (a * b) d)
+pub up_whole : (a b d q r : ℕ) → 0 < d → Some (q, r) ≡ mul_div a b d → capped (raised q r) ≡ capped (round_up (a * b) d)
 up_whole a b d q r p e =
     let k = done_is a b d q r e in
     ap capped (raised_is (a * b) d p q r k.quotient k.rest)

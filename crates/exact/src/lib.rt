@@ -6,13 +6,6 @@ ghost use Rattle.std.specs.Prelude.{◌≡◌, ◌+◌, ◌*◌, ◌/◌, ◌%�
 ghost use Rattle.exact.specs.MulDiv.{limit, mul_div, Divisor, Digits};
 ghost use Rattle.exact.specs.Rounding.{round_down, round_up, capped, raised};
 
-// The quotient and the remainder, or that the quotient passes 9*10^18.
-#[derive(Clone, Copy)]
-pub enum MulDiv {
-    Done(u64, u64),
-    TooBig,
-}
-
 const LIMIT: u64 = 9_000_000_000_000_000_000;
 
 // A quotient past this passes the limit once it has a digit more in base 65,536.
@@ -29,7 +22,7 @@ fn over(g: u64, x: u64) -> bool
 }
 
 // Long division in base 65,536, one digit more: q and r are those of a and all digits of w but the last.
-fn one_digit(a: u64, d: u64, w: u64, q: u64, r: u64) -> MulDiv
+fn one_digit(a: u64, d: u64, w: u64, q: u64, r: u64) -> Option<(u64, u64)>
     requires { Digits a d w q r }
     ensures { result ≡ mul_div a w d }
 {
@@ -37,77 +30,57 @@ fn one_digit(a: u64, d: u64, w: u64, q: u64, r: u64) -> MulDiv
     let x = a / d;
     let t = 65536 * r + g * (a % d);
     if LIMIT_BY_DIGIT < q {
-        return MulDiv::TooBig;
+        return None;
     }
     if over(g, x) {
-        return MulDiv::TooBig;
+        return None;
     }
     let v = 65536 * q + g * x + t / d;
     if LIMIT < v {
-        return MulDiv::TooBig;
+        return None;
     }
-    let z = t % d;
-    MulDiv::Done(v, z)
+    Some((v, t % d))
 }
 
-fn digit_step(s: MulDiv, a: u64, d: u64, w: u64) -> MulDiv
-    requires { Divisor d × (s ≡ mul_div a (w / 65536) d) }
-    ensures { result ≡ mul_div a w d }
-{
-    match s {
-        MulDiv::TooBig => MulDiv::TooBig,
-        MulDiv::Done(q, r) => one_digit(a, d, w, q, r),
-    }
-}
-
-// Four digits hold 64 bits, so four steps and no loop.
-pub fn mul_div(a: u64, b: u64, d: u64) -> MulDiv
+// The quotient and the remainder, or `None` where the quotient passes 9*10^18. Four digits hold 64 bits, so four
+// steps and no loop.
+pub fn mul_div(a: u64, b: u64, d: u64) -> Option<(u64, u64)>
     requires { Divisor d }
     ensures { result ≡ mul_div a b d }
 {
-    let s0 = MulDiv::Done(0, 0);
-    let s1 = digit_step(s0, a, d, b / 281_474_976_710_656);
-    let s2 = digit_step(s1, a, d, b / 4_294_967_296);
-    let s3 = digit_step(s2, a, d, b / 65536);
-    digit_step(s3, a, d, b)
+    let (q, r) = one_digit(a, d, b / 281_474_976_710_656, 0, 0)?;
+    let (q, r) = one_digit(a, d, b / 4_294_967_296, q, r)?;
+    let (q, r) = one_digit(a, d, b / 65536, q, r)?;
+    one_digit(a, d, b, q, r)
 }
 
-// A rounded quotient, or that it passes 9*10^18.
-#[derive(Clone, Copy)]
-pub enum Rounded {
-    To(u64),
-    Past,
-}
-
-pub fn scaled_down(a: u64, b: u64, d: u64) -> Rounded
+// The quotient rounded down, or `None` where that passes 9*10^18.
+pub fn scaled_down(a: u64, b: u64, d: u64) -> Option<u64>
     requires { Divisor d }
     ensures { result ≡ capped (round_down (a * b) d) }
 {
-    match mul_div(a, b, d) {
-        MulDiv::TooBig => Rounded::Past,
-        MulDiv::Done(q, _) => Rounded::To(q),
-    }
+    let (q, _) = mul_div(a, b, d)?;
+    Some(q)
 }
 
-fn one_up(q: u64, r: u64) -> Rounded
+fn one_up(q: u64, r: u64) -> Option<u64>
     requires { q ≤ limit }
     ensures { result ≡ capped (raised q r) }
 {
     if r == 0 {
-        return Rounded::To(q);
+        return Some(q);
     }
     if q < LIMIT {
-        return Rounded::To(q + 1);
+        return Some(q + 1);
     }
-    Rounded::Past
+    None
 }
 
-pub fn scaled_up(a: u64, b: u64, d: u64) -> Rounded
+// The same, rounded up.
+pub fn scaled_up(a: u64, b: u64, d: u64) -> Option<u64>
     requires { Divisor d }
     ensures { result ≡ capped (round_up (a * b) d) }
 {
-    match mul_div(a, b, d) {
-        MulDiv::TooBig => Rounded::Past,
-        MulDiv::Done(q, r) => one_up(q, r),
-    }
+    let (q, r) = mul_div(a, b, d)?;
+    one_up(q, r)
 }

@@ -17,8 +17,7 @@ fn portion(money: Amount, all: Quantity, some: Quantity) -> Amount
     let k = some.0;
     let a = n / d * k;
     let b = n % d * k;
-    let part = a + b / d;
-    Amount(part)
+    Amount(a + b / d)
 }
 
 // The money of k of the q shares of a position that has the money m.

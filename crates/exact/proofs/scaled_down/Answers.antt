@@ -1,14 +1,10 @@
 -- `exact::scaled_down` meets its contract. Assumes nothing.
-use mathlib.Core.Path.{sym, ◌∙◌}
+use Rattle.std.proofs.Common.{◌∙◌}
 use Rattle.exact.specs.Rounding.{down_past, down_whole}
 use Rattle.exact.proofs.scaled_down.Goals as goal
 
-pub returns-in-TooBig : goal.returns-in-TooBig
-returns-in-TooBig c =
-    let a = c.args in
-    down_past a.a a.b a.d (sym c.in-TooBig.is ∙ c.mul_div.ensures)
+pub returns-in_err-q : goal.returns-in_err-q
+returns-in_err-q c = c.from_residual.ensures ∙ down_past _ _ _ c.in_err-q.ensures
 
-pub returns-in-Done : goal.returns-in-Done
-returns-in-Done c =
-    let a = c.args in
-    down_whole a.a a.b a.d c.in-Done.q c.in-Done.field-1 (sym c.in-Done.is ∙ c.mul_div.ensures)
+pub returns : goal.returns
+returns c = down_whole _ _ _ _ _ c.in_ok-q.ensures

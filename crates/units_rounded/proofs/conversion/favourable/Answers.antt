@@ -1,7 +1,5 @@
 -- `units_rounded::conversion::favourable` meets its contract. Assumes nothing.
-use Prim.Native.Nat.{◌-◌, zero-le}
-use native.Mathlib.Omega.{arith}
-use mathlib.Core.Path.{sym, ap, ◌∙◌}
+use Rattle.std.proofs.Common.{◌-◌, zero-le, sym, ap, ◌∙◌, arith}
 use Rattle.exact.specs.Rounding.{capped, capped_whole}
 use Rattle.units_rounded.specs.ConversionLaws.{factor_le, favourable_none, favourable_is}
 use Rattle.units_rounded.proofs.conversion.favourable.Goals as goal
@@ -11,10 +9,10 @@ returns-then-is_negative c =
     let none = favourable_none _ _ _ (sym c.is_negative.ensures ∙ c.if-is_negative.true) in
     sym (ap capped none ∙ capped_whole 0 zero-le)
 
-pub overflow_mul-f : goal.overflow_mul-f
-overflow_mul-f c = omega (arith, factor_le (10000 - c.args.haircut) c.args.rate (omega arith) (omega arith))
+pub overflow_mul-factor : goal.overflow_mul-factor
+overflow_mul-factor c = omega (arith, factor_le (10000 - c.args.haircut) c.args.rate (omega arith) (omega arith))
 
 pub returns : goal.returns
 returns c =
     let some = favourable_is _ _ _ (sym c.is_negative.ensures ∙ c.if-is_negative.false) in
-    rw c.size-size.ensures at c.scaled_down.ensures ∙ ap capped some
+    rw c.size.ensures at c.scaled_down.ensures ∙ ap capped some

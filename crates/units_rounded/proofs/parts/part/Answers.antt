@@ -1,8 +1,5 @@
 -- `units_rounded::parts::part` meets its contract. Assumes nothing.
-use native.Mathlib.Omega.{arith}
-use Prim.Native.Nat.{◌*◌, ◌/◌}
-use mathlib.Core.Path.{◌≡◌}
-use lib.IntN.{nat_abs}
+use Rattle.std.proofs.Common.{◌≡◌, ◌*◌, ◌/◌, nat_abs, arith}
 use Rattle.units.specs.Units.{shares_of, mils_of}
 use Rattle.units_rounded.proofs.PartLaws.{part_signed}
 use Rattle.units_rounded.proofs.parts.part.Goals as goal
