@@ -1,6 +1,6 @@
 // The charges of the day: 256 amounts of money, account by account and within an account currency by currency.
 // A signed number stands there as its 64 bits.
-ghost use Rattle.std.specs.Prelude.{◌≡◌, ◌*◌, ◌<◌, length, get_or, set, pos};
+ghost use Rattle.std.specs.Prelude.{◌≡◌, ◌*◌, ◌<◌, get_or, set, pos};
 ghost use Rattle.units.specs.Units.{mils};
 ghost use Rattle.rules.specs.Bounds.{accounts, currencies};
 ghost use Rattle.rules.specs.Book.{with_charges};
@@ -16,7 +16,7 @@ use units::Mils;
 
 // One charge where it stands.
 pub fn charge_at(b: &BookBytes, i: usize) -> Mils
-    requires { (i < accounts * currencies) }
+    requires { i < accounts * currencies }
     ensures { result ≡ get_or (book_of b.now).charges i (mils (pos 0)) }
 {
     Mils::from_bits(word(b, CHARGES + i * CHARGE_BYTES))
@@ -24,7 +24,7 @@ pub fn charge_at(b: &BookBytes, i: usize) -> Mils
 
 // One charge is changed where it stands: every other byte is left as it was.
 pub fn put_charge(b: &mut BookBytes, i: usize, m: Mils)
-    requires { (i < accounts * currencies) }
+    requires { i < accounts * currencies }
     ensures { Holds b.new (with_charges (book_of b.old) (set (book_of b.old).charges i m)) }
 {
     put(b, CHARGES + i * CHARGE_BYTES, 8, m.bits());

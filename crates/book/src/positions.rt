@@ -4,7 +4,7 @@ ghost use Rattle.fields.specs.Field.{stored};
 ghost use Rattle.fields.specs.Codec.{read_rows};
 ghost use Rattle.rules.specs.Bounds.{most_records};
 ghost use Rattle.rules.specs.Book.{no_position};
-ghost use Rattle.rules.specs.Layout.{position, book_length, book_of};
+ghost use Rattle.rules.specs.Layout.{position, book_of};
 ghost use Rattle.book.specs.Places.{positions_place};
 ghost use Rattle.book.specs.Replacing.{Holds, with_rows};
 
@@ -31,7 +31,7 @@ fn row_at(b: &[u8], at: usize) -> Position
 
 // One row of the table where it stands, for a test that copies no table.
 pub fn position_at(b: &BookBytes, i: usize) -> Position
-    requires { (i < most_records) }
+    requires { i < most_records }
     ensures { result ≡ get_or (book_of b.now).positions i no_position }
 {
     row_at(b, POSITIONS + i * POSITION_BYTES)
@@ -47,10 +47,8 @@ pub fn positions_at(b: &BookBytes) -> [Position; 1024]
         money: Mils(Whole(0)),
     };
     let mut t = [none; 1024];
-    let mut i: usize = 0;
-    while i < 1024 {
+    for i in 0..1024 {
         t[i] = row_at(b, POSITIONS + i * POSITION_BYTES);
-        i += 1;
     }
     t
 }
@@ -76,7 +74,7 @@ pub fn put_row(p: Position, b: &mut [u8], at: usize)
 
 // One row is changed where it stands: every other byte is left as it was.
 pub fn put_position(b: &mut BookBytes, i: usize, p: Position)
-    requires { (i < most_records) }
+    requires { i < most_records }
     ensures { Holds b.new (with_rows (book_of b.old) (book_of b.old).records (set (book_of b.old).positions i p)) }
 {
     put_row(p, b, POSITIONS + i * POSITION_BYTES);

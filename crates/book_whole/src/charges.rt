@@ -1,36 +1,30 @@
 // The charges of the day, all 256 at once.
-ghost use Rattle.std.specs.Prelude.{◌≡◌, length, drop};
+ghost use Rattle.std.specs.Prelude.{◌≡◌, drop};
 ghost use Rattle.fields.specs.Field.{stored};
 ghost use Rattle.fields.specs.Codec.{read_rows, write_rows};
-ghost use Rattle.rules.specs.Layout.{amount, book_length};
+ghost use Rattle.rules.specs.Layout.{amount};
 ghost use Rattle.book.specs.Places.{charges_place};
 
-use book::{CHARGE_BYTES, CHARGES, word};
+use book::{BookBytes, CHARGE_BYTES, CHARGES, word};
 use fields::put;
 use units::{Mils, Whole};
 
-pub(crate) fn charges_at(b: &[u8]) -> [Mils; 256]
-    requires { length b.now ≡ book_length }
+pub(crate) fn charges_at(b: &BookBytes) -> [Mils; 256]
     ensures { result ≡ read_rows amount 256 (drop charges_place b.now) }
 {
     let none = Mils(Whole(0));
     let mut t = [none; 256];
-    let mut i: usize = 0;
-    while i < 256 {
+    for i in 0..256 {
         t[i] = Mils::from_bits(word(b, CHARGES + i * CHARGE_BYTES));
-        i += 1;
     }
     t
 }
 
-pub(crate) fn put_charges(t: [Mils; 256], b: &mut [u8])
-    requires { length b.old ≡ book_length }
+pub(crate) fn put_charges(t: [Mils; 256], b: &mut BookBytes)
     ensures { b.new ≡ stored b.old charges_place (write_rows amount t) }
 {
-    let mut i: usize = 0;
-    while i < 256 {
+    for i in 0..256 {
         let m = t[i];
         put(b, CHARGES + i * CHARGE_BYTES, 8, m.bits());
-        i += 1;
     }
 }

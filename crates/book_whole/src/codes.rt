@@ -1,20 +1,16 @@
 // The currency codes, all 32 at once.
-ghost use Rattle.std.specs.Prelude.{◌≡◌, length};
+ghost use Rattle.std.specs.Prelude.{◌≡◌};
 ghost use Rattle.fields.specs.Field.{stored};
 ghost use Rattle.fields.specs.Codec.{number, write_rows};
-ghost use Rattle.rules.specs.Layout.{book_length};
 ghost use Rattle.book.specs.Places.{codes_place};
 
-use book::{CODE_BYTES, CODES};
+use book::{BookBytes, CODE_BYTES, CODES};
 use fields::{put, wide};
 
-pub(crate) fn put_codes(t: [u8; 32], b: &mut [u8])
-    requires { length b.old ≡ book_length }
+pub(crate) fn put_codes(t: [u8; 32], b: &mut BookBytes)
     ensures { b.new ≡ stored b.old codes_place (write_rows (number 1) t) }
 {
-    let mut i: usize = 0;
-    while i < 32 {
+    for i in 0..32 {
         put(b, CODES + i * CODE_BYTES, 1, wide(t[i]));
-        i += 1;
     }
 }

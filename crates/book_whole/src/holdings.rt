@@ -1,33 +1,26 @@
 // The holdings, all 2,048 at once.
-ghost use Rattle.std.specs.Prelude.{◌≡◌, length, drop};
+ghost use Rattle.std.specs.Prelude.{◌≡◌, drop};
 ghost use Rattle.fields.specs.Field.{stored};
 ghost use Rattle.fields.specs.Codec.{number, read_rows, write_rows};
-ghost use Rattle.rules.specs.Layout.{book_length};
 ghost use Rattle.book.specs.Places.{holdings_place};
 
-use book::{HOLDING_BYTES, HOLDINGS, word};
+use book::{BookBytes, HOLDING_BYTES, HOLDINGS, word};
 use fields::put;
 
-pub(crate) fn holdings_at(b: &[u8]) -> [u64; 2048]
-    requires { length b.now ≡ book_length }
+pub(crate) fn holdings_at(b: &BookBytes) -> [u64; 2048]
     ensures { result ≡ read_rows (number 8) 2_048 (drop holdings_place b.now) }
 {
     let mut t = [0u64; 2048];
-    let mut i: usize = 0;
-    while i < 2048 {
+    for i in 0..2048 {
         t[i] = word(b, HOLDINGS + i * HOLDING_BYTES);
-        i += 1;
     }
     t
 }
 
-pub(crate) fn put_holdings(t: [u64; 2048], b: &mut [u8])
-    requires { length b.old ≡ book_length }
+pub(crate) fn put_holdings(t: [u64; 2048], b: &mut BookBytes)
     ensures { b.new ≡ stored b.old holdings_place (write_rows (number 8) t) }
 {
-    let mut i: usize = 0;
-    while i < 2048 {
+    for i in 0..2048 {
         put(b, HOLDINGS + i * HOLDING_BYTES, 8, t[i]);
-        i += 1;
     }
 }

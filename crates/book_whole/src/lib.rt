@@ -2,10 +2,10 @@
 // stores it. Calls on a book read and write its parts where they stand (`book`).
 #![tactic(auto)]
 
-ghost use Rattle.std.specs.Prelude.{◌≡◌, length};
-ghost use Rattle.rules.specs.Layout.{book_of, bytes_of, book_length};
+ghost use Rattle.std.specs.Prelude.{◌≡◌};
+ghost use Rattle.rules.specs.Layout.{book_of, bytes_of};
 
-use book::{DAY, ENTRIES, RECORDS, codes_at, positions_at, put_trades, trades_at};
+use book::{BookBytes, DAY, ENTRIES, RECORDS, codes_at, positions_at, put_trades, trades_at};
 use fields::{get, put};
 use rules::Book;
 
@@ -15,8 +15,7 @@ mod holdings;
 mod positions;
 
 // The book that some bytes are.
-pub fn load(b: &[u8]) -> Book
-    requires { length b.now ≡ book_length }
+pub fn load(b: &BookBytes) -> Book
     ensures { result ≡ book_of b.now }
 {
     let day = get(b, DAY, 2) as u16;
@@ -40,8 +39,7 @@ pub fn load(b: &[u8]) -> Book
 }
 
 // The bytes that a book is: every byte is written, nothing of what stood there before is left.
-pub fn store(k: Book, b: &mut [u8])
-    requires { length b.old ≡ book_length }
+pub fn store(k: Book, b: &mut BookBytes)
     ensures { b.new ≡ bytes_of k }
 {
     let currency = k.currency;
