@@ -1,7 +1,7 @@
 -- A book's bytes with one entry stored anew are those of the book with that entry; and so with the list and its count, the day, all charges
 -- set to zero, and the list emptied.
-use Rattle.std.specs.Prelude.{◌≡◌, refl, List, [], ◌∷◌, ◌++◌, ℕ, zero, suc, ◌+◌, ◌*◌, ◌-◌, ◌<◌, ◌≤◌, pos, length, set, replicate}
-use Rattle.std.proofs.Common.{sym, ap, ap₂, ◌∙◌, add-one, arith, length-set, length-append}
+use Rattle.std.specs.Prelude.{◌≡◌, refl, List, [], ◌∷◌, ◌++◌, ℕ, zero, suc, ◌+◌, ◌*◌, ◌<◌, ◌≤◌, pos, length, set, replicate}
+use Rattle.std.proofs.Common.{sym, ap, ap₂, ◌∙◌, arith, length-set, length-append}
 use Rattle.std.proofs.lemmas.List.{length-replicate, set-append_left}
 use Rattle.std.proofs.lemmas.List.Edits.{sets}
 use Rattle.integers.specs.Bits.{bits_of}
@@ -194,12 +194,3 @@ charges_cleared bs h l =
     let none = replicate 256 (mils (pos 0)) in
     ap₂ (λ (b d : List ℕ). stored b charges_place d) (sym (bytes_book bs h l)) (sym (zero_amounts 256))
     ∙ charges_change (book_of bs) none (tables bs) (length-replicate 256 (mils (pos 0)))
-
--- a run of zeros up to n: one more is stored, and all are
-pub zeros_more : (b : List ℕ) (i n : ℕ) → i < n → stored (set b i 0) (i + 1) (replicate (n - (i + 1)) 0) ≡ stored b i (replicate (n - i) 0)
-unfolding stored
-zeros_more b i n h = let e : n - i ≡ suc (n - (i + 1)) = omega arith in rw (e, add-one i) refl
-
-pub zeros_done : (b : List ℕ) (i n : ℕ) → n ≤ i → b ≡ stored b i (replicate (n - i) 0)
-unfolding stored
-zeros_done b i n h = let e : n - i ≡ 0 = omega arith in rw e refl

@@ -1,6 +1,6 @@
 // The charges of the day: 256 amounts of money, account by account and within an account currency by currency.
 // A signed number stands there as its 64 bits.
-ghost use Rattle.std.specs.Prelude.{◌≡◌, ◌*◌, ◌<◌, length, get_or, set, pos};
+ghost use Rattle.std.specs.Prelude.{◌≡◌, ◌*◌, ◌<◌, get_or, set, pos};
 ghost use Rattle.units.specs.Units.{mils};
 ghost use Rattle.rules.specs.Bounds.{accounts, currencies};
 ghost use Rattle.rules.specs.Book.{with_charges};

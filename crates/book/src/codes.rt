@@ -1,5 +1,5 @@
 // The currency codes: a byte for each of the 32 securities.
-ghost use Rattle.std.specs.Prelude.{◌≡◌, ◌<◌, length, get_or, drop};
+ghost use Rattle.std.specs.Prelude.{◌≡◌, ◌<◌, get_or, drop};
 ghost use Rattle.fields.specs.Codec.{number, read_rows};
 ghost use Rattle.rules.specs.Bounds.{securities};
 ghost use Rattle.rules.specs.Layout.{book_length, book_of};
@@ -26,10 +26,8 @@ pub fn codes_at(b: &BookBytes) -> [u8; 32]
     ensures { result ≡ read_rows (number 1) 32 (drop codes_place b.now) }
 {
     let mut t = [0u8; 32];
-    let mut i: usize = 0;
-    while i < 32 {
+    for i in 0..32 {
         t[i] = get(b, CODES + i * CODE_BYTES, 1) as u8;
-        i += 1;
     }
     t
 }

@@ -1,5 +1,5 @@
 // The holdings: 2,048 unsigned numbers, account by account and within an account security by security.
-ghost use Rattle.std.specs.Prelude.{◌≡◌, ◌*◌, ◌<◌, length, get_or, set};
+ghost use Rattle.std.specs.Prelude.{◌≡◌, ◌*◌, ◌<◌, get_or, set};
 ghost use Rattle.rules.specs.Bounds.{accounts, securities};
 ghost use Rattle.rules.specs.Book.{with_holdings};
 ghost use Rattle.rules.specs.Layout.{book_length, book_of};

@@ -11,9 +11,9 @@ mod trades;
 mod words;
 mod zeros;
 
-ghost use Rattle.std.specs.Prelude.{◌≡◌, length};
+ghost use Rattle.std.specs.Prelude.{◌≡◌};
 ghost use Rattle.rules.specs.Book.{with_day};
-ghost use Rattle.rules.specs.Layout.{book_of, book_length};
+ghost use Rattle.rules.specs.Layout.{book_of};
 ghost use Rattle.book.specs.Replacing.{Holds, with_rows};
 
 pub use charges::{charge_at, clear_charges, put_charge};

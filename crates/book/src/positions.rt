@@ -4,7 +4,7 @@ ghost use Rattle.fields.specs.Field.{stored};
 ghost use Rattle.fields.specs.Codec.{read_rows};
 ghost use Rattle.rules.specs.Bounds.{most_records};
 ghost use Rattle.rules.specs.Book.{no_position};
-ghost use Rattle.rules.specs.Layout.{position, book_length, book_of};
+ghost use Rattle.rules.specs.Layout.{position, book_of};
 ghost use Rattle.book.specs.Places.{positions_place};
 ghost use Rattle.book.specs.Replacing.{Holds, with_rows};
 
@@ -47,10 +47,8 @@ pub fn positions_at(b: &BookBytes) -> [Position; 1024]
         money: Mils(Whole(0)),
     };
     let mut t = [none; 1024];
-    let mut i: usize = 0;
-    while i < 1024 {
+    for i in 0..1024 {
         t[i] = row_at(b, POSITIONS + i * POSITION_BYTES);
-        i += 1;
     }
     t
 }

@@ -4,7 +4,7 @@ ghost use Rattle.fields.specs.Field.{stored};
 ghost use Rattle.fields.specs.Codec.{read_rows, write_rows};
 ghost use Rattle.rules.specs.Bounds.{most_trades};
 ghost use Rattle.rules.specs.Book.{no_trade};
-ghost use Rattle.rules.specs.Layout.{trade, book_length, book_of, bytes_of};
+ghost use Rattle.rules.specs.Layout.{trade, book_of, bytes_of};
 ghost use Rattle.book.specs.Places.{trades_place};
 ghost use Rattle.rules.specs.Roll.{emptied};
 ghost use Rattle.book.specs.Changing.{with_table};
@@ -79,10 +79,8 @@ pub fn trades_at(b: &BookBytes) -> [Trade; 256]
         price: Price(0),
     };
     let mut t = [none; 256];
-    let mut i: usize = 0;
-    while i < 256 {
+    for i in 0..256 {
         t[i] = row_at(b, TRADES + i * TRADE_BYTES);
-        i += 1;
     }
     t
 }
@@ -104,10 +102,8 @@ fn put_trade(t: Trade, b: &mut [u8], at: usize)
 pub fn put_trades(t: [Trade; 256], b: &mut BookBytes)
     ensures { b.new ≡ stored b.old trades_place (write_rows trade t) }
 {
-    let mut i: usize = 0;
-    while i < 256 {
+    for i in 0..256 {
         let row = t[i];
         put_trade(row, b, TRADES + i * TRADE_BYTES);
-        i += 1;
     }
 }

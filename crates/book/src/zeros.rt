@@ -7,9 +7,5 @@ pub(crate) fn put_zeros(b: &mut [u8], from: usize, to: usize)
     requires { (from ≤ to) × (to ≤ length b.old) }
     ensures { b.new ≡ stored b.old from (replicate (to - from) 0) }
 {
-    let mut i = from;
-    while i < to {
-        b[i] = 0;
-        i += 1;
-    }
+    b[from..to].fill(0);
 }

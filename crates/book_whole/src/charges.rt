@@ -1,8 +1,8 @@
 // The charges of the day, all 256 at once.
-ghost use Rattle.std.specs.Prelude.{◌≡◌, length, drop};
+ghost use Rattle.std.specs.Prelude.{◌≡◌, drop};
 ghost use Rattle.fields.specs.Field.{stored};
 ghost use Rattle.fields.specs.Codec.{read_rows, write_rows};
-ghost use Rattle.rules.specs.Layout.{amount, book_length};
+ghost use Rattle.rules.specs.Layout.{amount};
 ghost use Rattle.book.specs.Places.{charges_place};
 
 use book::{BookBytes, CHARGE_BYTES, CHARGES, word};
@@ -14,10 +14,8 @@ pub(crate) fn charges_at(b: &BookBytes) -> [Mils; 256]
 {
     let none = Mils(Whole(0));
     let mut t = [none; 256];
-    let mut i: usize = 0;
-    while i < 256 {
+    for i in 0..256 {
         t[i] = Mils::from_bits(word(b, CHARGES + i * CHARGE_BYTES));
-        i += 1;
     }
     t
 }
@@ -25,10 +23,8 @@ pub(crate) fn charges_at(b: &BookBytes) -> [Mils; 256]
 pub(crate) fn put_charges(t: [Mils; 256], b: &mut BookBytes)
     ensures { b.new ≡ stored b.old charges_place (write_rows amount t) }
 {
-    let mut i: usize = 0;
-    while i < 256 {
+    for i in 0..256 {
         let m = t[i];
         put(b, CHARGES + i * CHARGE_BYTES, 8, m.bits());
-        i += 1;
     }
 }

@@ -1,8 +1,7 @@
 // The currency codes, all 32 at once.
-ghost use Rattle.std.specs.Prelude.{◌≡◌, length};
+ghost use Rattle.std.specs.Prelude.{◌≡◌};
 ghost use Rattle.fields.specs.Field.{stored};
 ghost use Rattle.fields.specs.Codec.{number, write_rows};
-ghost use Rattle.rules.specs.Layout.{book_length};
 ghost use Rattle.book.specs.Places.{codes_place};
 
 use book::{BookBytes, CODE_BYTES, CODES};
@@ -11,9 +10,7 @@ use fields::{put, wide};
 pub(crate) fn put_codes(t: [u8; 32], b: &mut BookBytes)
     ensures { b.new ≡ stored b.old codes_place (write_rows (number 1) t) }
 {
-    let mut i: usize = 0;
-    while i < 32 {
+    for i in 0..32 {
         put(b, CODES + i * CODE_BYTES, 1, wide(t[i]));
-        i += 1;
     }
 }

@@ -1,8 +1,7 @@
 // The holdings, all 2,048 at once.
-ghost use Rattle.std.specs.Prelude.{◌≡◌, length, drop};
+ghost use Rattle.std.specs.Prelude.{◌≡◌, drop};
 ghost use Rattle.fields.specs.Field.{stored};
 ghost use Rattle.fields.specs.Codec.{number, read_rows, write_rows};
-ghost use Rattle.rules.specs.Layout.{book_length};
 ghost use Rattle.book.specs.Places.{holdings_place};
 
 use book::{BookBytes, HOLDING_BYTES, HOLDINGS, word};
@@ -12,10 +11,8 @@ pub(crate) fn holdings_at(b: &BookBytes) -> [u64; 2048]
     ensures { result ≡ read_rows (number 8) 2_048 (drop holdings_place b.now) }
 {
     let mut t = [0u64; 2048];
-    let mut i: usize = 0;
-    while i < 2048 {
+    for i in 0..2048 {
         t[i] = word(b, HOLDINGS + i * HOLDING_BYTES);
-        i += 1;
     }
     t
 }
@@ -23,9 +20,7 @@ pub(crate) fn holdings_at(b: &BookBytes) -> [u64; 2048]
 pub(crate) fn put_holdings(t: [u64; 2048], b: &mut BookBytes)
     ensures { b.new ≡ stored b.old holdings_place (write_rows (number 8) t) }
 {
-    let mut i: usize = 0;
-    while i < 2048 {
+    for i in 0..2048 {
         put(b, HOLDINGS + i * HOLDING_BYTES, 8, t[i]);
-        i += 1;
     }
 }

@@ -2,8 +2,8 @@
 // stores it. Calls on a book read and write its parts where they stand (`book`).
 #![tactic(auto)]
 
-ghost use Rattle.std.specs.Prelude.{◌≡◌, length};
-ghost use Rattle.rules.specs.Layout.{book_of, bytes_of, book_length};
+ghost use Rattle.std.specs.Prelude.{◌≡◌};
+ghost use Rattle.rules.specs.Layout.{book_of, bytes_of};
 
 use book::{BookBytes, DAY, ENTRIES, RECORDS, codes_at, positions_at, put_trades, trades_at};
 use fields::{get, put};

@@ -1,19 +1,6 @@
 -- `book::charges::clear_charges` meets its contract. Assumes nothing.
-use native.Mathlib.Omega.{arith}
-use Rattle.fields.specs.Field.{Bytes}
 use Rattle.book.specs.Replacing.{charges_stored}
 use Rattle.book.proofs.charges.clear_charges.Goals as goal
-use Rattle.book.proofs.charges.clear_charges.Tie as tie
-use Rattle.book.proofs.charges.clear_charges.Lts as lts
-use Rattle.book.proofs.charges.clear_charges.Reads as reads
-
--- ── what is known at a place of the code, to say a fact once for several goals ──
-
-abbrev After-slice_known : Type 0
-After-slice_known = lts.After-slice_known tie.the-claims reads.Pre reads.Post
-
-bytes : (c : After-slice_known) → Bytes c.args.b.now
-bytes c = record { byte = λ i. omega (arith, c.slice_known-1.given i) }
 
 pub returns : goal.returns
-returns c = charges_stored c.args.b.now (bytes c.before.before.before.before.before) c.requires _ c.put_zeros.ensures
+returns c = charges_stored c.args.b.now (record { byte = c.fits-b }) c.told-b _ c.put_zeros.ensures

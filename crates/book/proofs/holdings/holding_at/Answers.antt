@@ -3,4 +3,4 @@ use Rattle.book.specs.Views.{holding_view}
 use Rattle.book.proofs.holdings.holding_at.Goals as goal
 
 pub returns : goal.returns
-returns c = holding_view _ _ _ c.requires.1 c.word.ensures
+returns c = holding_view _ _ _ c.requires c.word.ensures

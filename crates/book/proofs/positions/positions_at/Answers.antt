@@ -1,25 +1,20 @@
 -- `book::positions::positions_at` meets its contract. The invariant: the first i rows are those that the layout reads. Assumes nothing.
-use native.Mathlib.Omega.{arith}
-use mathlib.Core.Path.{refl}
-use lib.ListN.{length-set}
+use Rattle.std.proofs.Common.{arith, refl, length-set}
 use Rattle.fields.specs.Codec.{read_none, read_more, read_done}
 use Rattle.rules.specs.Layout.{position}
 use Rattle.book.specs.Places.{positions_place}
 use Rattle.book.proofs.positions.positions_at.Goals as goal
 
 pub loop-i-init : goal.loop-i-init
-loop-i-init c = (omega arith, (refl, read_none position _))
+loop-i-init c = (refl, read_none position _)
 
 pub loop-i-preserved : goal.loop-i-preserved
 loop-i-preserved c =
     let l = c.loop-i in (
-      omega arith,
-      (
-        simp length-set l.invariant.1.0,
-        read_more position l.i positions_place _ l.t _ (omega arith) l.invariant.1.1
-            c.row_at.ensures,
-      ),
+      simp length-set l.invariant.0,
+      read_more position l.i positions_place _ l.t _ (omega arith) l.invariant.1
+          c.row_at.ensures,
     )
 
 pub returns : goal.returns
-returns c = let l = c.loop-i in read_done position 1_024 l.i _ _ l.invariant.1.0 (omega arith) l.invariant.1.1
+returns c = let l = c.loop-i in read_done position 1_024 l.i _ _ l.invariant.0 (omega arith) l.invariant.1

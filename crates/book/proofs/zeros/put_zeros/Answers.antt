@@ -1,26 +1,14 @@
--- `book::zeros::put_zeros` meets its contract. The invariant: the zeros that are left, stored, make what the contract says. Assumes nothing.
-use native.Mathlib.Omega.{arith}
-use mathlib.Core.Path.{refl, ◌∙◌}
-use lib.ListN.{length-set}
-use Rattle.book.specs.Changing.{zeros_more, zeros_done}
+-- `book::zeros::put_zeros` meets its contract: what `fill` leaves between two places is the zeros stored there. Assumes nothing.
+use Rattle.std.proofs.Common.{◌≡◌, ℕ, ◌-◌, replicate, length, ap, ◌∙◌, append_assoc, arith, length-drop, drop-drop}
+use Rattle.std.proofs.lemmas.List.{length-take-le, length-replicate}
+use Rattle.fields.specs.FieldLaws.{stored_eq}
 use Rattle.book.proofs.zeros.put_zeros.Goals as goal
 
-pub loop-i-init : goal.loop-i-init
-loop-i-init c = (omega arith, (refl, refl))
-
-pub bounds-b-i : goal.bounds-b-i
-bounds-b-i c = omega arith
-
-pub overflow_add-i : goal.overflow_add-i
-overflow_add-i c = omega arith
-
-pub loop-i-smaller : goal.loop-i-smaller
-loop-i-smaller c = omega arith
-
-pub loop-i-preserved : goal.loop-i-preserved
-loop-i-preserved c =
-    let l = c.loop-i in
-    (omega arith, (simp length-set l.invariant.1.0, zeros_more l.b l.i c.args.to (omega arith) ∙ l.invariant.1.1))
-
 pub returns : goal.returns
-returns c = let l = c.loop-i in zeros_done l.b l.i c.args.to (omega arith) ∙ l.invariant.1.1
+returns c =
+    let n = c.args.to - c.args.from in
+    let l = c.args.b.now in
+    let long = length-take-le n _ (omega (arith, length-drop c.args.from l)) in
+    let zeros : c.fill.new.self ≡ replicate n 0 = c.fill.ensures.after (λ y e. e) ∙ ap (λ (k : ℕ). replicate k 0) long in
+    let sized : length (replicate {A = ℕ} n 0) ≡ n = length-replicate n 0 in
+    rw (stored_eq l c.args.from (replicate n 0) (omega arith), append_assoc, zeros, sized, drop-drop n c.args.from l)
