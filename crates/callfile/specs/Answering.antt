@@ -1,5 +1,5 @@
 -- One record as a call of its own: its answer and the bytes that it leaves, by what stands at its place.
-use Rattle.std.specs.Prelude.{◌≡◌, Bool, true, false, ◌&&◌, ◌||◌, List, ℕ, ◌+◌, ◌≤◌, ◌<◌, eqb, leb, ltb, length, drop, pos}
+use Rattle.std.specs.Prelude.{◌≡◌, Bool, true, false, ◌&&◌, ◌||◌, List, ℕ, ◌+◌, ◌≤◌, ◌<◌, eqb, leb, ltb, length, drop, pos, Result, Ok, Err}
 use Rattle.std.proofs.Math.Path.{refl, sym, ap}
 use Rattle.std.proofs.Common.{◌∙◌, arith, eq-eqb, ne_eqb, lt-ltb, le-ltb, leb-false, ltb-false}
 use Rattle.std.proofs.Math.Bool.{not}
@@ -12,8 +12,6 @@ use Rattle.rules.specs.Calls.{Call, answer_bytes, figure_bytes, after_bytes}
 use Rattle.rules.specs.Records.{create, call, unreadable, length_of, record_at, other_version, too_long, file_refused, past_end, answer_to, record_answer, bytes_after, applies, record_bytes, number_of_record, figure_of_record, next_of_record, record_number, record_figure, record_next}
 use Rattle.rules.specs.declared.RecordAnswer.{RecordAnswer}
 use Rattle.rules.specs.declared.RecordAnswer.TheVariants.{Answered, Unreadable, Ended, FileRefused}
-use Rattle.rules.specs.declared.RunAnswer.{RunAnswer}
-use Rattle.rules.specs.declared.RunAnswer.TheVariants.{Moved, RunRefused}
 use Rattle.laws.specs.Cases.{by_test, cond_yes, cond_no}
 use Rattle.laws.specs.EnumAnswers.{record_told}
 
@@ -110,9 +108,9 @@ pub record Ready (book file : List ℕ) (place : ℕ) : Type 0 where
   pub there : past_end file place ≡ false
 
 -- the answer of a run as the record's
-unfoldable pub ran_as : RunAnswer → ℕ → RecordAnswer
-ran_as (Moved q) next = Answered 0 q next
-ran_as (RunRefused n) next = Answered n (shares (pos 0)) next
+unfoldable pub ran_as : Result Shares ℕ → ℕ → RecordAnswer
+ran_as (Ok q) next = Answered 0 q next
+ran_as (Err n) next = Answered n (shares (pos 0)) next
 
 -- a place that is asked for is within the file, or is one of the first two
 pub place_small : (book file : List ℕ) (place : ℕ) → Ready book file place → place ≤ most_file

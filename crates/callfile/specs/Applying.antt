@@ -1,5 +1,5 @@
 -- What stands at a place is done by its call: the answer and the bytes of the record, from those of the call.
-use Rattle.std.specs.Prelude.{◌≡◌, true, false, ◌&&◌, eqb, take, drop, pos}
+use Rattle.std.specs.Prelude.{◌≡◌, true, false, ◌&&◌, eqb, take, drop, pos, Result, Ok, Err}
 use Rattle.std.proofs.Math.Path.{refl, ap, subst}
 use Rattle.std.proofs.Common.{sym, ◌∙◌}
 use mathlib.Core.List.{List, []}
@@ -8,6 +8,7 @@ use native.Mathlib.Omega.{arith}
 use Rattle.std.proofs.Math.ListN.{length, length-take, length-drop}
 use borrow.Author.Tests.{eq-eqb, eqb-true}
 use Rattle.units.specs.Units.{shares}
+use Rattle.units.specs.declared.Shares.{Shares}
 use Rattle.rules.specs.Words.{all, first}
 use Rattle.rules.specs.Bounds.{securities}
 use Rattle.rules.specs.Book.{empty_book}
@@ -18,7 +19,6 @@ use Rattle.rules.specs.Records.{Record, create, call, unreadable, length_of, in_
 use Rattle.rules.specs.CallFile.{is_unreadable}
 use Rattle.rules.specs.declared.RecordAnswer.{RecordAnswer}
 use Rattle.rules.specs.declared.RecordAnswer.TheVariants.{Answered, Unreadable}
-use Rattle.rules.specs.declared.RunAnswer.{RunAnswer}
 use Rattle.laws.specs.Cases.{by_test, true_false, both_hold, cond_yes, cond_no}
 use Rattle.callfile_format.specs.Bodies.{codes_at}
 use Rattle.callfile.specs.Rooms.{is_create, call_no_create, body_there, create_long}
@@ -74,11 +74,11 @@ module _ (book file : List ℕ) (place : ℕ) (r : Ready book file place) where
       (call_there book file place (not_refused book file place r.short r.long) r.ours r.there c n (shares (pos 0)) m new (sym e) en
       (ap (λ (k : ℕ). shares (pos k)) (sym (no_figure book c z))) (em (readable (ap is_unreadable (sym e)))) f)
 
-  pub run_done : (s m : ℕ) (t : RunAnswer) (a : RecordAnswer) (new : List ℕ) → call (run s) ≡ record_at file place → t ≡ run_answer book s
+  pub run_done : (s m : ℕ) (t : Result Shares ℕ) (a : RecordAnswer) (new : List ℕ) → call (run s) ≡ record_at file place → t ≡ run_answer book s
       → (place + 2 ≤ length file → m ≡ next) → a ≡ ran_as t m → new ≡ after_bytes book (run s) → Done book file place a new
   unfolding is_unreadable
   run_done s m t a new e et em ea f =
-      subst (λ (x : RecordAnswer). Done book file place x new) (sym (ea ∙ ap (λ (y : RunAnswer). ran_as y m) et ∙ ran_is book s m))
+      subst (λ (x : RecordAnswer). Done book file place x new) (sym (ea ∙ ap (λ (y : Result Shares ℕ). ran_as y m) et ∙ ran_is book s m))
       (call_there book file place (not_refused book file place r.short r.long) r.ours r.there (run s) (answer_bytes book (run s))
       (shares (pos (figure_bytes book (run s)))) m new (sym e) refl refl (em (readable (ap is_unreadable (sym e)))) f)
 

@@ -1,5 +1,5 @@
 -- A call over lent bytes that are no sound book; and creation, by the ways that its code takes.
-use Rattle.std.specs.Prelude.{◌≡◌, Bool, true, false, ◌||◌, ℕ, eqb, length, pos}
+use Rattle.std.specs.Prelude.{◌≡◌, Bool, true, false, ◌||◌, ℕ, eqb, length, pos, Result, Ok, Err}
 use Rattle.std.proofs.Math.Path.{sym}
 use Rattle.std.proofs.Common.{ap, ◌∙◌, arith}
 use Rattle.std.proofs.Math.Bool.{not}
@@ -12,7 +12,6 @@ use Rattle.rules.specs.Book.{empty_book}
 use Rattle.rules.specs.Layout.{book_length, book_of, bytes_of}
 use Rattle.rules.specs.Sound.{not_sound, is_code}
 use Rattle.rules.specs.Calls.{Call, run, tests, after, answer_bytes, after_bytes, figure_bytes, run_answer, create_tests, create_answer, create_bytes}
-use Rattle.rules.specs.declared.RunAnswer.TheVariants.{Moved, RunRefused}
 use Rattle.laws.specs.Cases.{cond_no}
 
 -- what a test that was made gives
@@ -33,11 +32,11 @@ module _ (bs : List ℕ) (h : not_sound bs ≡ true) where
       let e : 1 ≡ answer_bytes bs c = stopped (not_sound bs) 1 (tests (book_of bs) c) h in
       (e, sym (cond_no (bytes_of (after (book_of bs) c)) bs (ne_eqb (answer_bytes bs c) 0 (λ z. omega (arith, e, z)))))
 
-  pub run_unsound : (s : ℕ) → (RunRefused 1 ≡ run_answer bs s) × (bs ≡ after_bytes bs (run s))
+  pub run_unsound : (s : ℕ) → (Err 1 ≡ run_answer bs s) × (bs ≡ after_bytes bs (run s))
   unfolding run_answer
   run_unsound s =
       let u = unsound (run s) in
-      (ap RunRefused u.0 ∙ sym (cond_no (Moved (shares (pos (figure_bytes bs (run s))))) _ (ne_eqb (answer_bytes bs (run s)) 0 (λ z. omega (arith, u.0, z)))), u.1)
+      (ap Err u.0 ∙ sym (cond_no (Ok (shares (pos (figure_bytes bs (run s))))) _ (ne_eqb (answer_bytes bs (run s)) 0 (λ z. omega (arith, u.0, z)))), u.1)
 
 -- ── creation ──
 

@@ -1,20 +1,17 @@
 -- The answer of marks by the four sums, and that it is the rules' once the tests before 16 are passed.
-use Rattle.std.specs.Prelude.{◌≡◌, Bool, true, false, cond, ◌||◌, List, [], ℕ, ◌-◌, ◌≤◌, leb, get_or, pos}
+use Rattle.std.specs.Prelude.{◌≡◌, Bool, true, false, cond, ◌||◌, List, [], ℕ, ◌-◌, ◌≤◌, leb, get_or, pos, Option, Some, None, Result, Ok, Err}
 use Rattle.std.proofs.Common.{sym, ◌∙◌}
 use Rattle.std.proofs.Math.Path.{ap}
 use borrow.Author.Tests.{leb-true, leb-false, lt-ltb, le-ltb, ne_eqb, ltb-false}
 use Rattle.exact.specs.MulDiv.{limit}
 use Rattle.exact.specs.Rounding.{capped, capped_whole, capped_past}
-use Rattle.exact.specs.declared.Rounded.{Rounded}
-use Rattle.exact.specs.declared.Rounded.TheVariants.{To, Past}
 use Rattle.units.specs.Units.{mils_of, mils}
 use Rattle.units.specs.declared.Mils.{Mils}
 use Rattle.rules.specs.Words.{any, total, from, above, first}
 use Rattle.rules.specs.Bounds.{every_currency, most_converted}
 use Rattle.rules.specs.Marks.{Terms, rate_of, haircut_of, marked_of, lacks_price, sum_of, favourable_total, unfavourable_total, due_and_sums, passes_limit}
 use Rattle.rules.specs.declared.Book.{Book}
-use Rattle.rules.specs.declared.MarksAnswer.{MarksAnswer}
-use Rattle.rules.specs.declared.MarksAnswer.TheVariants.{Due, MarksRefused}
+use Rattle.rules.specs.declared.Marks.{Marks}
 use Rattle.laws.specs.Cases.{by_test, neither}
 use Rattle.laws.specs.Charging.{amount_at}
 use Rattle.marking.specs.SoundMarks.{terms_tests, book_tests, number_sound, marks_sound}
@@ -23,13 +20,13 @@ use Rattle.marking.specs.Passing.{fault_first, fine_first}
 
 -- ── a total up to the limit ──
 
-abbrev pub is_past : Rounded → Bool
-is_past (To n) = false
-is_past Past = true
+abbrev pub is_past : Option ℕ → Bool
+is_past (Some n) = false
+is_past None = true
 
-abbrev pub number_in : Rounded → ℕ
-number_in (To n) = n
-number_in Past = 0
+abbrev pub number_in : Option ℕ → ℕ
+number_in (Some n) = n
+number_in None = 0
 
 pub past_is : (n : ℕ) → is_past (capped n) ≡ above most_converted n
 past_is n =
@@ -45,22 +42,22 @@ number_is n e = ap number_in (capped_whole n (ltb-false limit n e))
 abbrev pub amount : List Mils → ℕ → Mils
 amount sums c = get_or sums c (mils (pos 0))
 
-unfoldable pub due_with : List Mils → ℕ → ℕ → MarksAnswer
-due_with sums up down = Due (mils (pos (down - up))) (amount sums 0) (amount sums 1) (amount sums 2) (amount sums 3)
+unfoldable pub due_with : List Mils → ℕ → ℕ → Marks
+due_with sums up down = record { due = mils (pos (down - up)); sums = sums }
 
 pub due_is : (sums : List Mils) (up down n : ℕ) (due : Mils) → mils_of due ≡ pos n → n ≡ down - up
     → Due due (amount sums 0) (amount sums 1) (amount sums 2) (amount sums 3) ≡ due_with sums up down
 unfolding due_with
 due_is sums up down n due e f = ap (λ (m : Mils). Due m (amount sums 0) (amount sums 1) (amount sums 2) (amount sums 3)) (ap mils (e ∙ ap pos f))
 
-unfoldable pub answer_of : List Mils → List ℕ → List ℕ → MarksAnswer
+unfoldable pub answer_of : List Mils → List ℕ → List ℕ → Result Marks ℕ
 answer_of sums rates haircuts =
     let up = favourable_sum sums rates haircuts in
     let down = unfavourable_sum sums rates haircuts in
-    cond (above most_converted up || above most_converted down) (MarksRefused 16) (due_with sums up down)
+    cond (above most_converted up || above most_converted down) (Err 16) (Ok (due_with sums up down))
 
 -- as the code has it, with the totals in f and u
-module _ (sums : List Mils) (rates haircuts : List ℕ) (f u : Rounded) (is_f : f ≡ capped (favourable_sum sums rates haircuts)) (is-u : u ≡ capped (unfavourable_sum sums rates haircuts)) where
+module _ (sums : List Mils) (rates haircuts : List ℕ) (f u : Option ℕ) (is_f : f ≡ capped (favourable_sum sums rates haircuts)) (is-u : u ≡ capped (unfavourable_sum sums rates haircuts)) where
   abbrev up : ℕ
   up = favourable_sum sums rates haircuts
 
@@ -70,7 +67,7 @@ module _ (sums : List Mils) (rates haircuts : List ℕ) (f u : Rounded) (is_f : 
   either_past : is_past f || is_past u ≡ above most_converted up || above most_converted down
   either_past = rw (is_f, is-u, past_is up, past_is down)
 
-  pub answer_past : is_past f || is_past u ≡ true → MarksRefused 16 ≡ answer_of sums rates haircuts
+  pub answer_past : is_past f || is_past u ≡ true → Err 16 ≡ answer_of sums rates haircuts
   unfolding answer_of
   answer_past e = rw (sym either_past ∙ e)
 
@@ -88,7 +85,7 @@ module _ (sums : List Mils) (rates haircuts : List ℕ) (f u : Rounded) (is_f : 
 -- ── that it is the rules' ──
 
 module _ (k : Book) (a : ℕ) (t : Terms) where
-  pub refused_terms : (n : ℕ) → n ≡ first (terms_tests a t []) → (n ≡ 0 → ⊥) → MarksRefused n ≡ marks_sound k a t
+  pub refused_terms : (n : ℕ) → n ≡ first (terms_tests a t []) → (n ≡ 0 → ⊥) → Err n ≡ marks_sound k a t
   unfolding marks_sound number_sound
   refused_terms n e h = rw (fault_first a t (book_tests k a t) n e h, ne_eqb n 0 h)
 
@@ -97,7 +94,7 @@ module _ (k : Book) (a : ℕ) (t : Terms) where
     unfolding number_sound
     number_rest = fine_first a t (book_tests k a t) fine
 
-    pub refused_unpriced : any (lacks_price t) (marked_of k a) ≡ true → MarksRefused 17 ≡ marks_sound k a t
+    pub refused_unpriced : any (lacks_price t) (marked_of k a) ≡ true → Err 17 ≡ marks_sound k a t
     unfolding marks_sound book_tests first
     refused_unpriced e = rw (number_rest, e)
 
@@ -110,7 +107,7 @@ module _ (k : Book) (a : ℕ) (t : Terms) where
       unfolding unfavourable_sum unfavourable_total total every_currency from rate_of haircut_of
       unfavourable_is = rw (are 0, are 1, are 2, are 3)
 
-      answer_is : answer_of sums t.rates t.haircuts ≡ cond (passes_limit k t (marked_of k a)) (MarksRefused 16) (due_and_sums k t (marked_of k a))
+      answer_is : answer_of sums t.rates t.haircuts ≡ cond (passes_limit k t (marked_of k a)) (Err 16) (Ok (due_and_sums k t (marked_of k a)))
       unfolding answer_of passes_limit due_and_sums due_with
       answer_is = rw (favourable_is, unfavourable_is, ap mils (are 0), ap mils (are 1), ap mils (are 2), ap mils (are 3))
 

@@ -1,11 +1,9 @@
 -- The totals of the converted sums: what rates and haircuts have passed, sums up to the limit, and one currency more.
-use Rattle.std.specs.Prelude.{◌≡◌, refl, List, [], ◌∷◌, ℕ, zero, suc, ◌+◌, ◌<◌, ◌≤◌, leb, length, get_or, take}
+use Rattle.std.specs.Prelude.{◌≡◌, refl, List, [], ◌∷◌, ℕ, zero, suc, ◌+◌, ◌<◌, ◌≤◌, leb, length, get_or, take, Option, Some, None}
 use Rattle.std.proofs.Math.Path.{sym, ap}
 use Rattle.std.proofs.Common.{ap₂, ◌∙◌, add-one, arith, take-suc, take_all, leb-true, leb-false}
 use Rattle.exact.specs.MulDiv.{limit}
 use Rattle.exact.specs.Rounding.{capped, capped_whole, capped_past}
-use Rattle.exact.specs.declared.Rounded.{Rounded}
-use Rattle.exact.specs.declared.Rounded.TheVariants.{To, Past}
 use Rattle.units_rounded.specs.Conversion.{favourable_of, unfavourable_of}
 use Rattle.units_rounded.specs.ConversionLaws.{Terms}
 use Rattle.units.specs.declared.Mils.{Mils}
@@ -38,19 +36,19 @@ unfavourable_sum sums rates haircuts = total (unfavourable_in sums rates haircut
 
 -- ── two numbers up to the limit ──
 
-abbrev pub together : Rounded → Rounded → Rounded
-together (To x) (To y) = capped (x + y)
-together (To x) Past = Past
-together Past (To y) = Past
-together Past Past = Past
+abbrev pub together : Option ℕ → Option ℕ → Option ℕ
+together (Some x) (Some y) = capped (x + y)
+together (Some x) None = None
+together None (Some y) = None
+together None None = None
 
-past_right : (r : Rounded) → together r Past ≡ Past
-past_right (To x) = refl
-past_right Past = refl
+past_right : (r : Option ℕ) → together r None ≡ None
+past_right (Some x) = refl
+past_right None = refl
 
-pub past_left : (r : Rounded) → together Past r ≡ Past
-past_left (To x) = refl
-past_left Past = refl
+pub past_left : (r : Option ℕ) → together None r ≡ None
+past_left (Some x) = refl
+past_left None = refl
 
 pub together_capped : (x y : ℕ) → together (capped x) (capped y) ≡ capped (x + y)
 together_capped x y =
@@ -58,7 +56,7 @@ together_capped x y =
     (λ a. by_test (leb y limit)
     (λ b. ap₂ together (capped_whole x (leb-true x limit a)) (capped_whole y (leb-true y limit b)))
     (λ b. let h = leb-false y limit b in ap (together (capped x)) (capped_past y h) ∙ past_right (capped x) ∙ sym (capped_past (x + y) (omega arith))))
-    (λ a. let h = leb-false x limit a in ap (λ (r : Rounded). together r (capped y)) (capped_past x h) ∙ past_left (capped y) ∙ sym (capped_past (x + y) (omega arith)))
+    (λ a. let h = leb-false x limit a in ap (λ (r : Option ℕ). together r (capped y)) (capped_past x h) ∙ past_left (capped y) ∙ sym (capped_past (x + y) (omega arith)))
 
 -- ── one currency more ──
 
@@ -75,7 +73,7 @@ currency_at (suc (suc (suc zero))) h = refl
 currency_at (suc (suc (suc (suc c)))) h = absurd (omega arith)
 
 module _ (f : ℕ → ℕ) where
-  pub total_none : To 0 ≡ capped (total f (take 0 every_currency))
+  pub total_none : Some 0 ≡ capped (total f (take 0 every_currency))
   unfolding total
   total_none = sym (capped_whole 0 (omega arith))
 
@@ -87,10 +85,10 @@ module _ (f : ℕ → ℕ) where
       ∙ total_append f (take c every_currency) (get_or every_currency c 0 ∷ [])
       ∙ omega (arith, ap f (currency_at c h))
 
-  pub total_more : (c : ℕ) (r s t : Rounded) → c < 4 → r ≡ capped (total f (take c every_currency)) → s ≡ capped (f c) → t ≡ together r s
+  pub total_more : (c : ℕ) (r s t : Option ℕ) → c < 4 → r ≡ capped (total f (take c every_currency)) → s ≡ capped (f c) → t ≡ together r s
       → t ≡ capped (total f (take (c + 1) every_currency))
   total_more c r s t h e g u =
       u ∙ ap₂ together e g ∙ together_capped (total f (take c every_currency)) (f c) ∙ sym (ap capped (total_take c h))
 
-  pub total_done : (c : ℕ) (r : Rounded) → 4 ≤ c → r ≡ capped (total f (take c every_currency)) → r ≡ capped (total f every_currency)
+  pub total_done : (c : ℕ) (r : Option ℕ) → 4 ≤ c → r ≡ capped (total f (take c every_currency)) → r ≡ capped (total f every_currency)
   total_done c r h e = e ∙ ap (λ (l : List ℕ). capped (total f l)) (take_all c every_currency (omega (arith, currencies_length)))

@@ -168,11 +168,12 @@ module _ (k : Book) (ok : sound k ≡ true) (long : length k.positions ≡ most_
       let sum : count ≡ open_plus_nets k = f.counted ∙ ap (λ (j : ℕ). length (open_of k) + length (nets_to due (list_of k) j)) end ∙ all_counted in
       let room : count ≡ length (open_of k ++ new_nets k) = f.counted ∙ ap (λ (l : List Position). length (open_of k) + length l) found ∙ sym (length-append (open_of k) (new_nets k)) in (
         omega (arith, sum, f.few),
-        λ o. f.filled
+        sum,
+        f.filled
             ∙ ap₂ (λ (l : List Position) (n : ℕ). (open_of k ++ l) ++ replicate (most_records - n) no_position) found room
             ∙ sym rolling_rows,
       )
 
   -- there are more than the table has rows
-  pub filled_past : (rows : List Position) → most_records < length (open_of k) + length (nets_to due (list_of k) 2_048) → WithNets k (most_records + 1) rows
-  filled_past rows h = (omega (arith, all_counted), λ o. absurd (omega (arith, all_counted)))
+  pub filled_past : (number : ℕ) → number ≡ 10 → most_records < length (open_of k) + length (nets_to due (list_of k) 2_048) → PastRoom k number
+  filled_past number e h = (omega (arith, h, all_counted), e)

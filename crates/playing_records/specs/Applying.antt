@@ -1,13 +1,13 @@
 -- The call of one record on the lent bytes of a book: its answer, its figure and the bytes that it leaves.
-use Rattle.std.specs.Prelude.{◌≡◌, refl, List, ℕ, eqb, nat_abs}
+use Rattle.std.specs.Prelude.{◌≡◌, refl, List, ℕ, eqb, nat_abs, Result, Ok, Err}
 use Rattle.std.proofs.Math.Path.{ap}
 use Rattle.std.proofs.Common.{◌∙◌}
 use Rattle.std.proofs.Math.Option.{Option, some, none}
 use Rattle.laws.specs.Cases.{by_test}
 use Rattle.laws.specs.EnumAnswers.{run_number, run_figure}
+use Rattle.units.specs.declared.Shares.{Shares}
 use Rattle.rules.specs.Layout.{book_of}
 use Rattle.rules.specs.Calls.{Call, enter, amend, exclude, roll, deposit, withdraw, run, figure, answer_bytes, figure_bytes, after_bytes, run_answer, number_of_run, figure_of_run}
-use Rattle.rules.specs.declared.RunAnswer.{RunAnswer}
 use Rattle.callfile_format.specs.declared.reading.Read.{Read}
 use Rattle.callfile_format.specs.declared.reading.Read.TheVariants as read
 
@@ -61,6 +61,6 @@ module _ (bs : List ℕ) (place : ℕ) (found g : Read) (is : found ≡ g) where
   quiet c e z n new d m f w =
       applied c e m f new (w.0 ∙ d.0, d.1) (w.1 ∙ by_test (eqb (answer_bytes bs c) 0) (λ y. rw (y, z)) (λ y. rw y))
 
-  pub ran : (s : ℕ) → call_in g ≡ some (run s) → (a : RunAnswer) → a ≡ run_answer bs s → (n f : ℕ) (new : List ℕ) → n ≡ number_of_run a → f ≡ nat_abs (figure_of_run a)
+  pub ran : (s : ℕ) → call_in g ≡ some (run s) → (a : Result Shares ℕ) → a ≡ run_answer bs s → (n f : ℕ) (new : List ℕ) → n ≡ number_of_run a → f ≡ nat_abs (figure_of_run a)
       → new ≡ after_bytes bs (run s) → Applied bs place found n f new
-  ran s e a ea n f new en ef eb = applied (run s) e n f new (en ∙ ap number_of_run ea ∙ run_number bs s, eb) (ef ∙ ap (λ (a : RunAnswer). nat_abs (figure_of_run a)) ea ∙ ap nat_abs (run_figure bs s))
+  ran s e a ea n f new en ef eb = applied (run s) e n f new (en ∙ ap number_of_run ea ∙ run_number bs s, eb) (ef ∙ ap (λ (a : Result Shares ℕ). nat_abs (figure_of_run a)) ea ∙ ap nat_abs (run_figure bs s))

@@ -1,6 +1,6 @@
 -- Answers as the exported functions hand them out: a number, and figures of their own. No figure of a run or of a record is below zero, so
 -- that it is an unsigned number.
-use Rattle.std.specs.Prelude.{◌≡◌, refl, Bool, true, false, cond, List, [], ◌∷◌, ℕ, ◌+◌, eqb, drop, ℤ}
+use Rattle.std.specs.Prelude.{◌≡◌, refl, Bool, true, false, cond, List, [], ◌∷◌, ℕ, ◌+◌, eqb, drop, ℤ, Result, Ok, Err}
 use Rattle.std.proofs.Common.{sym, ◌∙◌}
 use Rattle.std.proofs.Math.Path.{ap}
 use Rattle.std.proofs.Math.IntN.{pos, nat_abs}
@@ -10,10 +10,7 @@ use Rattle.units.specs.declared.Mils.{Mils}
 use Rattle.rules.specs.Calls.{run, answer_bytes, figure_bytes, run_answer, number_of_run, figure_of_run}
 use Rattle.rules.specs.Marks.{number_of_marks, figures_of_marks}
 use Rattle.rules.specs.Records.{Record, create, call, unreadable, length_of, record_at, other_version, file_refused, past_end, answer_to, record_answer, number_of_record, figure_of_record, next_of_record}
-use Rattle.rules.specs.declared.RunAnswer.{RunAnswer}
-use Rattle.rules.specs.declared.RunAnswer.TheVariants.{Moved, RunRefused}
-use Rattle.rules.specs.declared.MarksAnswer.{MarksAnswer}
-use Rattle.rules.specs.declared.MarksAnswer.TheVariants.{Due, MarksRefused}
+use Rattle.rules.specs.declared.Marks.{Marks}
 use Rattle.rules.specs.declared.RecordAnswer.{RecordAnswer}
 use Rattle.rules.specs.declared.RecordAnswer.TheVariants.{Answered, Unreadable, Ended, FileRefused}
 use Rattle.rules.specs.Sound.{not_sound}
@@ -32,7 +29,7 @@ run_unsigned : (bs : List ℕ) (s : ℕ) → Unsigned (figure_of_run (run_answer
 unfolding run_answer figure_of_run
 run_unsigned bs s =
     either figure_of_run (eqb (answer_bytes bs (run s)) 0)
-    (Moved (shares (pos (figure_bytes bs (run s))))) (RunRefused (answer_bytes bs (run s))) refl refl
+    (Ok (shares (pos (figure_bytes bs (run s))))) (Err (answer_bytes bs (run s))) refl refl
 
 answer_unsigned : (book : List ℕ) (place next : ℕ) (r : Record) → Unsigned (figure_of_record (answer_to book place next r))
 unfolding answer_to figure_of_record
@@ -64,20 +61,20 @@ sound_told bs e t = rw (sym e ∙ t)
 -- ── the answer of a run, by its cases ──
 
 module _ (bs : List ℕ) (s : ℕ) where
-  pub moved_told : (q : Shares) → Moved q ≡ run_answer bs s → (k : ℕ) → k ≡ nat_abs (shares_of q)
+  pub moved_told : (q : Shares) → Ok q ≡ run_answer bs s → (k : ℕ) → k ≡ nat_abs (shares_of q)
       → (0 ≡ number_of_run (run_answer bs s)) × (pos k ≡ figure_of_run (run_answer bs s))
   unfolding number_of_run figure_of_run
   moved_told q h k e =
-      (ap number_of_run h, ap pos (e ∙ ap (λ (a : RunAnswer). nat_abs (figure_of_run a)) h) ∙ run_unsigned bs s)
+      (ap number_of_run h, ap pos (e ∙ ap (λ (a : Result Shares ℕ). nat_abs (figure_of_run a)) h) ∙ run_unsigned bs s)
 
-  pub refused_told : (r : ℕ) → RunRefused r ≡ run_answer bs s
+  pub refused_told : (r : ℕ) → Err r ≡ run_answer bs s
       → (r ≡ number_of_run (run_answer bs s)) × (pos 0 ≡ figure_of_run (run_answer bs s))
   unfolding number_of_run figure_of_run
   refused_told r h = (ap number_of_run h, ap figure_of_run h)
 
 -- ── the answer of marks, by its cases ──
 
-module _ (all : MarksAnswer) where
+module _ (all : Result Marks ℕ) where
   abbrev Marked : ℕ → List ℤ → Type 0
   Marked number figures = (number ≡ number_of_marks all) × (figures ≡ figures_of_marks all)
 
@@ -86,7 +83,7 @@ module _ (all : MarksAnswer) where
   unfolding number_of_marks figures_of_marks
   due_told d a b c e h v w x y z ev ew ex ey ez = (ap number_of_marks h, rw (ev, ew, ex, ey, ez) (ap figures_of_marks h))
 
-  pub marks_refused_told : (n : ℕ) → MarksRefused n ≡ all → Marked n (pos 0 ∷ pos 0 ∷ pos 0 ∷ pos 0 ∷ pos 0 ∷ [])
+  pub marks_refused_told : (n : ℕ) → Err n ≡ all → Marked n (pos 0 ∷ pos 0 ∷ pos 0 ∷ pos 0 ∷ pos 0 ∷ [])
   unfolding number_of_marks figures_of_marks
   marks_refused_told n h = (ap number_of_marks h, ap figures_of_marks h)
 
