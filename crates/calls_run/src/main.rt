@@ -2,12 +2,13 @@
 // answer. The script and the expected output (stdout) are written by tests/calls.py, which says what each line shows.
 #![tactic(auto)]
 
-use rules::RunAnswer;
+use rules::{Refusal, number_of};
 use std::io;
 use std::io::{ErrorKind, Read};
+use units::Shares;
 
 // Securities 0 to 3 in the currencies 0 to 3, the rest unlisted.
-fn create(book: &mut [u8]) -> u8 {
+fn create(book: &mut [u8]) -> Result<(), Refusal> {
     let mut codes = [255u8; 32];
     codes[0] = 0;
     codes[1] = 1;
@@ -17,19 +18,16 @@ fn create(book: &mut [u8]) -> u8 {
 }
 
 // The shares moved stand behind the answer of a run.
-fn print_run(rt: &impl Print, answer: RunAnswer) -> io::Result<()> {
-    match answer {
-        RunAnswer::Moved(q) => {
-            calls_run_script::print_answer(rt, 0)?;
-            calls_run_script::print_number(rt, q)?;
-        }
-        RunAnswer::RunRefused(n) => calls_run_script::print_answer(rt, n)?,
+fn print_run(rt: &impl Print, answer: Result<Shares, Refusal>) -> io::Result<()> {
+    calls_run_script::print_answer(rt, number_of(&answer))?;
+    if let Ok(moved) = answer {
+        calls_run_script::print_number(rt, moved)?;
     }
     Ok(())
 }
 
 // A trade entered or amended, or its number excluded.
-fn trade_call(command: &[u8; 16], book: &mut [u8]) -> u8 {
+fn trade_call(command: &[u8; 16], book: &mut [u8]) -> Result<(), Refusal> {
     let kind = command[0];
     match kind {
         1 => house::enter(book, calls_run_script::trade_of(command)),
@@ -38,7 +36,7 @@ fn trade_call(command: &[u8; 16], book: &mut [u8]) -> u8 {
     }
 }
 
-fn holding_call(command: &[u8; 16], book: &mut [u8]) -> u8 {
+fn holding_call(command: &[u8; 16], book: &mut [u8]) -> Result<(), Refusal> {
     let kind = command[0];
     let quantity = fields::get(command, 3, 8);
     match kind {
@@ -48,7 +46,7 @@ fn holding_call(command: &[u8; 16], book: &mut [u8]) -> u8 {
 }
 
 // A call, by its kind in a call file.
-fn call(command: &[u8; 16], book: &mut [u8]) -> u8 {
+fn call(command: &[u8; 16], book: &mut [u8]) -> Result<(), Refusal> {
     let kind = command[0];
     match kind {
         0 => create(book),
@@ -70,10 +68,6 @@ fn look(rt: &impl Print, command: &[u8; 16], book: &[u8], copied: &[u8]) -> io::
     Ok(())
 }
 
-fn empty(book: &mut [u8]) {
-    create(book);
-}
-
 fn obey(rt: &impl Print, command: &[u8; 16], book: &mut [u8], copied: &mut [u8]) -> io::Result<()> {
     let kind = command[0];
     match kind {
@@ -81,8 +75,8 @@ fn obey(rt: &impl Print, command: &[u8; 16], book: &mut [u8], copied: &mut [u8])
         8 => calls_run_script::write(command, book),
         9 => calls_run_script::copy(book, copied),
         10 | 11 | 12 | 13 => look(rt, command, book, copied)?,
-        14 => empty(book),
-        _ => calls_run_script::print_answer(rt, call(command, book))?,
+        14 => _ = create(book),
+        _ => calls_run_script::print_answer(rt, number_of(&call(command, book)))?,
     }
     Ok(())
 }

@@ -2,7 +2,7 @@
 // question. The expected output (stdout) is written by hand from the rules.
 #![tactic(auto)]
 
-use rules::{MarksAnswer, RunAnswer, Trade};
+use rules::{Refusal, Trade, number_of};
 use std::io;
 use units::Price;
 
@@ -15,6 +15,11 @@ fn print_number(rt: &impl Print, n: u64) -> io::Result<()> {
     rt.print(n)
 }
 
+// The number of an answer: 0, or the refusal's.
+fn print_answer<T>(rt: &impl Print, answer: Result<T, Refusal>) -> io::Result<()> {
+    print_number(rt, number_of(&answer) as u64)
+}
+
 // ── creation ──
 
 // "Creation: 18, 3": a book or a table of another length, then a code that is neither 0 to 3 nor 255.
@@ -23,13 +28,13 @@ fn creations(rt: &impl Print, book: &mut [u8], short: &mut [u8]) -> io::Result<(
     codes[0] = 0;
     let few = [0u8; 31];
     print_text(rt, b"creation")?;
-    print_number(rt, house::create(book, &few) as u64)?;
-    print_number(rt, house::create(short, &codes) as u64)?;
+    print_answer(rt, house::create(book, &few))?;
+    print_answer(rt, house::create(short, &codes))?;
     codes[31] = 4;
-    print_number(rt, house::create(book, &codes) as u64)?;
-    print_number(rt, house::create(short, &codes) as u64)?;
+    print_answer(rt, house::create(book, &codes))?;
+    print_answer(rt, house::create(short, &codes))?;
     codes[31] = 3;
-    print_number(rt, house::create(book, &codes) as u64)?;
+    print_answer(rt, house::create(book, &codes))?;
     print_text(rt, b"\n")
 }
 
@@ -41,20 +46,6 @@ fn creation(rt: &impl Print) -> io::Result<()> {
 
 // ── a book of another length ──
 
-fn run_number(answer: RunAnswer) -> u8 {
-    match answer {
-        RunAnswer::Moved(_) => 0,
-        RunAnswer::RunRefused(n) => n,
-    }
-}
-
-fn marks_number(answer: MarksAnswer) -> u8 {
-    match answer {
-        MarksAnswer::Due(_, _, _, _, _) => 0,
-        MarksAnswer::MarksRefused(n) => n,
-    }
-}
-
 // "Elsewhere a book of wrong length is 1": every call on it.
 fn trade_calls(rt: &impl Print, book: &mut [u8]) -> io::Result<()> {
     let trade = Trade {
@@ -65,27 +56,26 @@ fn trade_calls(rt: &impl Print, book: &mut [u8]) -> io::Result<()> {
         quantity: 10,
         price: Price(100),
     };
-    print_number(rt, house::enter(book, trade) as u64)?;
-    print_number(rt, house::amend(book, trade) as u64)?;
-    print_number(rt, house::exclude(book, 1) as u64)
+    print_answer(rt, house::enter(book, trade))?;
+    print_answer(rt, house::amend(book, trade))?;
+    print_answer(rt, house::exclude(book, 1))
 }
 
 fn holding_calls(rt: &impl Print, book: &mut [u8]) -> io::Result<()> {
-    print_number(rt, house::deposit(book, 1, 0, 10) as u64)?;
-    print_number(rt, house::withdraw(book, 1, 0, 10) as u64)
+    print_answer(rt, house::deposit(book, 1, 0, 10))?;
+    print_answer(rt, house::withdraw(book, 1, 0, 10))
 }
 
 fn day_calls(rt: &impl Print, book: &mut [u8]) -> io::Result<()> {
-    print_number(rt, house::roll(book) as u64)?;
-    print_number(rt, run_number(house::run(book, 0)) as u64)
+    print_answer(rt, house::roll(book))?;
+    print_answer(rt, house::run(book, 0))
 }
 
 fn marks_call(rt: &impl Print, book: &[u8]) -> io::Result<()> {
     let table = [0u8; 128];
     let rates = [1_000_000u32; 4];
     let haircuts = [0u32; 4];
-    let marks = house::marks(book, 1, &table, &table, &rates, &haircuts);
-    print_number(rt, marks_number(marks) as u64)
+    print_answer(rt, house::marks(book, 1, &table, &table, &rates, &haircuts))
 }
 
 fn every_call(rt: &impl Print, book: &mut [u8]) -> io::Result<()> {

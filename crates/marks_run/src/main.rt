@@ -3,7 +3,7 @@
 // due and the four sums, or the refusal; the expected output (stdout) has the figures of those documents.
 #![tactic(auto)]
 
-use rules::{MarksAnswer, Trade};
+use rules::{Marks, Refusal, Trade};
 use std::io;
 use units::{Mils, Price};
 
@@ -20,20 +20,19 @@ fn print_money(rt: &impl Print, m: Mils) -> io::Result<()> {
     rt.print(size.0)
 }
 
-fn print_marks(rt: &impl Print, answer: MarksAnswer) -> io::Result<()> {
+fn print_marks(rt: &impl Print, answer: Result<Marks, Refusal>) -> io::Result<()> {
     match answer {
-        MarksAnswer::Due(due, a, b, c, d) => {
+        Ok(marks) => {
             print_text(rt, b" due")?;
-            print_money(rt, due)?;
+            print_money(rt, marks.due)?;
             print_text(rt, b" sums")?;
-            print_money(rt, a)?;
-            print_money(rt, b)?;
-            print_money(rt, c)?;
-            print_money(rt, d)?;
+            for sum in marks.sums {
+                print_money(rt, sum)?;
+            }
         }
-        MarksAnswer::MarksRefused(n) => {
+        Err(refusal) => {
             print_text(rt, b" refused ")?;
-            rt.print(n as u64)?;
+            rt.print(u8::from(refusal) as u64)?;
         }
     }
     print_text(rt, b"\n")
@@ -46,7 +45,7 @@ fn create(book: &mut [u8]) {
     codes[1] = 0;
     codes[2] = 1;
     codes[3] = 1;
-    house::create(book, &codes);
+    _ = house::create(book, &codes);
 }
 
 fn enter(
@@ -66,7 +65,7 @@ fn enter(
         quantity: quantity,
         price: Price(price),
     };
-    house::enter(book, trade);
+    _ = house::enter(book, trade);
 }
 
 // The marks of an account, with closing prices of securities 0 to 3 and none in the day; currency 1 at 7.8 with a
@@ -102,7 +101,7 @@ fn clerk(rt: &impl Print, book: &mut [u8]) -> io::Result<()> {
     create(book);
     enter(book, 1, 1, 3, 0, 100, 10_000);
     enter(book, 2, 2, 3, 1, 100, 10_000);
-    house::roll(book);
+    _ = house::roll(book);
     mark(rt, book, 1, 12_000, 8_500, 0, 0)?;
     mark(rt, book, 2, 12_000, 8_500, 0, 0)?;
     mark(rt, book, 3, 12_000, 8_500, 0, 0)?;
@@ -116,7 +115,7 @@ fn v12(rt: &impl Print, book: &mut [u8]) -> io::Result<()> {
     enter(book, 2, 1, 2, 1, 200, 1_100);
     enter(book, 3, 2, 1, 2, 200, 1_000);
     enter(book, 4, 1, 2, 3, 100, 1_000);
-    house::roll(book);
+    _ = house::roll(book);
     mark(rt, book, 1, 1_100, 1_200, 1_200, 1_100)
 }
 
@@ -126,9 +125,9 @@ fn v13(rt: &impl Print, book: &mut [u8]) -> io::Result<()> {
     create(book);
     enter(book, 1, 2, 1, 0, 100, 1_000);
     enter(book, 2, 1, 2, 1, 200, 1_100);
-    house::roll(book);
-    house::roll(book);
-    house::roll(book);
+    _ = house::roll(book);
+    _ = house::roll(book);
+    _ = house::roll(book);
     mark(rt, book, 1, 1_100, 1_200, 0, 0)?;
     mark(rt, book, 2, 1_100, 1_200, 0, 0)
 }

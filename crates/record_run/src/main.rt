@@ -3,9 +3,7 @@
 // expected output (stdout) is written by hand from the rules.
 #![tactic(auto)]
 
-use lines::Counted;
-use playing::Played;
-use rules::{Line, RecordAnswer, Tally};
+use rules::{Line, RecordAnswer, Refusal, Tally, number_of};
 use std::io;
 use std::io::{ErrorKind, Read};
 use units::{Mils, Whole};
@@ -92,9 +90,9 @@ fn print_answer(rt: &impl Print, answers: &[u8], index: usize) -> io::Result<()>
 }
 
 fn play_whole(rt: &impl Print, book: &mut [u8], file: &[u8], answers: &mut [u8]) -> io::Result<()> {
-    let played: Played = playing::play(book, file, answers);
-    print_number(rt, played.number as u64)?;
-    print_number(rt, played.size as u64)
+    let played = playing::play(book, file, answers);
+    print_number(rt, number_of(&played) as u64)?;
+    print_number(rt, played.unwrap_or(0) as u64)
 }
 
 fn print_last_three(rt: &impl Print, answers: &[u8]) -> io::Result<()> {
@@ -124,10 +122,14 @@ fn both(rt: &impl Print, book: &mut [u8], file: &[u8]) -> io::Result<()> {
 
 // ── lines with a tally ──
 
-// The answer and the tally.
-fn print_counted(rt: &impl Print, c: Counted) -> io::Result<Tally> {
-    let t = c.tally;
-    print_number(rt, c.refusal as u64)?;
+// The answer of a line, and the tally that it leaves of the one before.
+fn print_counted(
+    rt: &impl Print,
+    counted: Result<Tally, Refusal>,
+    before: Tally,
+) -> io::Result<Tally> {
+    let t = counted.unwrap_or(before);
+    print_number(rt, number_of(&counted) as u64)?;
     print_number(rt, t.lines as u64)?;
     print_number(rt, t.bytes as u64)?;
     print_text(rt, b";")?;
@@ -145,10 +147,10 @@ fn tallied(rt: &impl Print) -> io::Result<()> {
         bytes: 999_974,
     };
     print_text(rt, b"lines")?;
-    let second = print_counted(rt, lines::put_counted(&mut buffer, line, first))?;
-    print_counted(rt, lines::put_counted(&mut short, line, second))?;
-    let third = print_counted(rt, lines::put_counted(&mut buffer, line, second))?;
-    print_counted(rt, lines::put_counted(&mut buffer, Line::End(0), third))?;
+    let second = print_counted(rt, lines::put_counted(&mut buffer, line, first), first)?;
+    print_counted(rt, lines::put_counted(&mut short, line, second), second)?;
+    let third = print_counted(rt, lines::put_counted(&mut buffer, line, second), second)?;
+    print_counted(rt, lines::put_counted(&mut buffer, Line::End(0), third), third)?;
     print_text(rt, b"\n")?;
     print_text(rt, &buffer)
 }

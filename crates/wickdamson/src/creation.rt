@@ -6,6 +6,7 @@ ghost use Rattle.rules.specs.Calls.{create_answer, create_bytes};
 ghost use Rattle.wickdamson.specs.Fields.{interface_version, sound_answer};
 
 use book::BOOK_BYTES;
+use rules::number_of;
 use soundness::not_sound;
 
 // It moves as docs/DECISIONS.md, C36 says; WICK_VERSION in the header is the same.
@@ -30,7 +31,7 @@ pub extern "C" fn wick_create(book: &mut [u8], codes: &[u8]) -> u8
     ensures { (result ≡ create_answer book.old codes.now)
         × (book.new ≡ create_bytes book.old codes.now) }
 {
-    house::create(book, codes)
+    number_of(&house::create(book, codes))
 }
 
 #[unsafe(no_mangle)]

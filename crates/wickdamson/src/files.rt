@@ -7,7 +7,7 @@ ghost use Rattle.rules.specs.Sheet.{sheet_answer, sheet_size, sheet_bytes, sheet
 
 use callfile::play_record;
 use playing::play;
-use rules::RecordAnswer;
+use rules::{RecordAnswer, number_of};
 use sheets::sheet;
 
 #[unsafe(no_mangle)]
@@ -61,8 +61,8 @@ pub extern "C" fn wick_play(
         × (book.new ≡ whole_bytes book.old file.now answers.old) }
 {
     let played = play(book, file, answers);
-    *size = played.size;
-    played.number
+    *size = played.unwrap_or(0);
+    number_of(&played)
 }
 
 #[unsafe(no_mangle)]
@@ -78,6 +78,6 @@ pub extern "C" fn wick_sheet(
         × (book.new ≡ sheet_book book.old file.now buffer.old) }
 {
     let written = sheet(book, file, buffer);
-    *size = written.size;
-    written.number
+    *size = written.unwrap_or(0);
+    number_of(&written)
 }

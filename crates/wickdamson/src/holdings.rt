@@ -4,6 +4,7 @@ ghost use Rattle.rules.specs.Calls.{deposit, withdraw, answer_bytes, after_bytes
 ghost use Rattle.wickdamson.specs.Fields.{byte_of};
 
 use crate::wide::byte_of;
+use rules::number_of;
 
 #[unsafe(no_mangle)]
 pub extern "C" fn wick_deposit(book: &mut [u8], account: u32, security: u32, quantity: u64) -> u8
@@ -12,7 +13,7 @@ pub extern "C" fn wick_deposit(book: &mut [u8], account: u32, security: u32, qua
 {
     let a = byte_of(account);
     let s = byte_of(security);
-    house::deposit(book, a, s, quantity)
+    number_of(&house::deposit(book, a, s, quantity))
 }
 
 #[unsafe(no_mangle)]
@@ -22,5 +23,5 @@ pub extern "C" fn wick_withdraw(book: &mut [u8], account: u32, security: u32, qu
 {
     let a = byte_of(account);
     let s = byte_of(security);
-    house::withdraw(book, a, s, quantity)
+    number_of(&house::withdraw(book, a, s, quantity))
 }

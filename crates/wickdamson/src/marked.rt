@@ -5,7 +5,6 @@ ghost use Rattle.rules.specs.Marks.{terms, marks, number_of_marks, figures_of_ma
 ghost use Rattle.wickdamson.specs.Fields.{byte_of};
 
 use crate::wide::byte_of;
-use rules::MarksAnswer;
 use units::Mils;
 
 fn figure_of(money: Mils) -> i64
@@ -34,23 +33,22 @@ pub extern "C" fn wick_marks(
         ≡ figures_of_marks (marks book.now (byte_of account) (terms intraday.now closing.now rates.now haircuts.now))) }
 {
     let a = byte_of(account);
-    let answer = house::marks(book, a, intraday, closing, rates, haircuts);
-    match answer {
-        MarksAnswer::Due(d, w, x, y, z) => {
-            *due = figure_of(d);
-            *sum0 = figure_of(w);
-            *sum1 = figure_of(x);
-            *sum2 = figure_of(y);
-            *sum3 = figure_of(z);
+    match house::marks(book, a, intraday, closing, rates, haircuts) {
+        Ok(marks) => {
+            *due = figure_of(marks.due);
+            *sum0 = figure_of(marks.sums[0]);
+            *sum1 = figure_of(marks.sums[1]);
+            *sum2 = figure_of(marks.sums[2]);
+            *sum3 = figure_of(marks.sums[3]);
             0
         }
-        MarksAnswer::MarksRefused(n) => {
+        Err(refusal) => {
             *due = 0;
             *sum0 = 0;
             *sum1 = 0;
             *sum2 = 0;
             *sum3 = 0;
-            n
+            refusal.into()
         }
     }
 }

@@ -5,14 +5,14 @@ ghost use Rattle.rules.specs.Calls.{roll, run, answer_bytes, after_bytes, run_an
 ghost use Rattle.wickdamson.specs.Fields.{byte_of};
 
 use crate::wide::byte_of;
-use rules::RunAnswer;
+use rules::number_of;
 
 #[unsafe(no_mangle)]
 pub extern "C" fn wick_roll(book: &mut [u8]) -> u8
     ensures { (result ≡ answer_bytes book.old roll)
         × (book.new ≡ after_bytes book.old roll) }
 {
-    house::roll(book)
+    number_of(&house::roll(book))
 }
 
 #[unsafe(no_mangle)]
@@ -22,15 +22,14 @@ pub extern "C" fn wick_run(book: &mut [u8], security: u32, moved: &mut u64) -> u
         × (book.new ≡ after_bytes book.old (run (byte_of security))) }
 {
     let s = byte_of(security);
-    let answer = house::run(book, s);
-    match answer {
-        RunAnswer::Moved(n) => {
-            *moved = n.size().0;
+    match house::run(book, s) {
+        Ok(shares) => {
+            *moved = shares.size().0;
             0
         }
-        RunAnswer::RunRefused(r) => {
+        Err(refusal) => {
             *moved = 0;
-            r
+            refusal.into()
         }
     }
 }

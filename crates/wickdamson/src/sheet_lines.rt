@@ -8,7 +8,7 @@ ghost use Rattle.wickdamson.specs.Lines.{LineWritten, LineOffered};
 
 use crate::wide::past_byte;
 use lines::put_counted;
-use rules::{Line, Tally};
+use rules::{Line, Tally, number_of};
 use units::{Mils, Shares, Whole};
 
 // A line of any kind at the front of the buffer. The tally moves on by the bytes written, none where it is refused.
@@ -20,11 +20,11 @@ fn write(buffer: &mut [u8], l: Line, lines: &mut u32, bytes: &mut u32, size: &mu
         bytes: *bytes,
     };
     let counted = put_counted(buffer, l, before);
-    let after = counted.tally;
+    let after = counted.unwrap_or(before);
     *size = (after.bytes - before.bytes) as usize;
     *lines = after.lines;
     *bytes = after.bytes;
-    counted.refusal
+    number_of(&counted)
 }
 
 #[unsafe(no_mangle)]

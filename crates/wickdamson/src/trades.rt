@@ -39,7 +39,7 @@ pub extern "C" fn wick_enter(
         × (book.new ≡ after_bytes book.old (enter (trade_of number buyer seller security quantity price))) }
 {
     let trade = trade_of(number, buyer, seller, security, quantity, price);
-    house::enter(book, trade)
+    rules::number_of(&house::enter(book, trade))
 }
 
 #[unsafe(no_mangle)]
@@ -56,7 +56,7 @@ pub extern "C" fn wick_amend(
         × (book.new ≡ after_bytes book.old (amend (trade_of number buyer seller security quantity price))) }
 {
     let trade = trade_of(number, buyer, seller, security, quantity, price);
-    house::amend(book, trade)
+    rules::number_of(&house::amend(book, trade))
 }
 
 #[unsafe(no_mangle)]
@@ -65,5 +65,5 @@ pub extern "C" fn wick_exclude(book: &mut [u8], number: u32) -> u8
         × (book.new ≡ after_bytes book.old (exclude (number_of number))) }
 {
     let excluded = number_of(number);
-    house::exclude(book, excluded)
+    rules::number_of(&house::exclude(book, excluded))
 }
