@@ -1,5 +1,6 @@
 -- Theorems about the rules. What is proved of the code cites these; nothing here must be believed.
 -- words of lists and tests
+pub mod RefusalNumbers
 pub mod Cases
 pub mod Walks
 pub mod All
