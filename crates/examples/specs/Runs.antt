@@ -1,7 +1,6 @@
 -- A run is for one security, and for records that are due (document 01, "Settlement run"): others stay. A file, and what the sheet prints
 -- of the book that its calls leave.
-use Rattle.std.specs.Prelude.{◌≡◌, refl, List, [], ◌∷◌, ◌++◌, ℕ}
-use Rattle.std.proofs.Math.Option.{some}
+use Rattle.std.specs.Prelude.{◌≡◌, refl, List, [], ◌∷◌, ◌++◌, ℕ, Some}
 use Rattle.rules.specs.Words.{each, text}
 use Rattle.rules.specs.CallFile.{contents_of}
 use Rattle.rules.specs.Sheet.{text_of, book_lines, sheet_of}
@@ -10,7 +9,7 @@ use Rattle.rules.specs.Written.{hex, created, book_with, through}
 
 -- the lines of the book, after the calls of a file that creates security 0 in currency 0 and security 1 in currency 1
 abbrev printed : List ℕ → List ℕ
-printed file = each text_of (book_lines (some (through (book_with (0 ∷ 1 ∷ [])) (contents_of file).calls)))
+printed file = each text_of (book_lines (Some (through (book_with (0 ∷ 1 ∷ [])) (contents_of file).calls)))
 
 abbrev two_securities_file : List ℕ
 two_securities_file =

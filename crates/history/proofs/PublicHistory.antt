@@ -1,7 +1,6 @@
 -- Histories of all public calls are histories of the seven: each public call leaves the bytes that its deed leaves, whatever the bytes before it.
-use Rattle.std.specs.Prelude.{◌≡◌, refl, false, ◌||◌, List, [], ◌∷◌, ◌++◌, ℕ, eqb}
+use Rattle.std.specs.Prelude.{◌≡◌, refl, false, ◌||◌, List, [], ◌∷◌, ◌++◌, ℕ, eqb, Option, Some, None}
 use Rattle.std.proofs.Common.{sym, ap, subst, ◌∙◌, eqb-true}
-use Rattle.std.proofs.Math.Option.{Option, some, none}
 use Rattle.rules.specs.Book.{empty_book}
 use Rattle.rules.specs.Layout.{bytes_of}
 use Rattle.rules.specs.Calls.{Call, after_bytes, create_answer, create_bytes}
@@ -27,8 +26,8 @@ record_deed bs unreadable = refl
 
 file_deed : (bs : List ℕ) (codes : Option (List ℕ)) (cs : List Call) → bytes_left bs (played_from codes cs).book ≡ done bs (deed_of_file codes cs)
 unfolding bytes_left played_from done deed_of_file made_bytes
-file_deed bs none cs = refl
-file_deed bs (some codes) cs = rw (played_made (empty_book codes) cs)
+file_deed bs None cs = refl
+file_deed bs (Some codes) cs = rw (played_made (empty_book codes) cs)
 
 pub one_deed : (bs : List ℕ) (p : Public) → leaves bs p ≡ done bs (deed bs p)
 unfolding leaves deed done made made_bytes create_bytes record_bytes whole_bytes sheet_book file_of
@@ -60,10 +59,10 @@ record_fits_lem (create codes) p = (p, tt)
 record_fits_lem (call c) p = (p, tt)
 record_fits_lem unreadable p = tt
 
-file_fits : (codes : Option (List ℕ)) (cs : List Call) → ((ds : List ℕ) → codes ≡ some ds → GoodCodes ds) → AllFit cs → Fit (deed_of_file codes cs)
+file_fits : (codes : Option (List ℕ)) (cs : List Call) → ((ds : List ℕ) → codes ≡ Some ds → GoodCodes ds) → AllFit cs → Fit (deed_of_file codes cs)
 unfolding Fit AllFit deed_of_file
-file_fits none cs g f = tt
-file_fits (some ds) cs g f = (g ds refl, f)
+file_fits None cs g f = tt
+file_fits (Some ds) cs g f = (g ds refl, f)
 
 pub deed_fits : (bs : List ℕ) (p : Public) → PublicFits p → Fit (deed bs p)
 unfolding deed PublicFits deed_of_record Proper

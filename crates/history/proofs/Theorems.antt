@@ -1,8 +1,7 @@
 -- The theorems of the whole, for every history of calls from an empty book: the statements to quote. Their words are in Histories; their proofs in the other files.
-use Rattle.std.specs.Prelude.{◌≡◌, true, false, cond, ℕ, ◌+◌, ◌<◌, ◌≤◌, length, pos, ◌+ℤ◌}
+use Rattle.std.specs.Prelude.{◌≡◌, true, false, cond, ℕ, ◌+◌, ◌<◌, ◌≤◌, length, pos, ◌+ℤ◌, Some, None}
 use Rattle.std.proofs.Math.Path.{refl, ap}
 use Rattle.std.proofs.Common.{sym, subst, ◌∙◌, zero-add}
-use Rattle.std.proofs.Math.Option.{some, none}
 use mathlib.Core.List.Perm
 use mathlib.Core.List.{List, [], ◌∷◌, ◌++◌, Perm}
 use Rattle.fields.specs.Field.{Bytes}
@@ -75,7 +74,7 @@ module _ (k : Book) (is_sound : sound k ≡ true) (shaped : Shaped k) (no_trades
     list_survivors = survivors_log k cs good no_trades
 
     -- A number survives exactly in the form of its last accepted entry or amendment, with no accepted exclusion behind it.
-    pub last_forms_lem : (n : ℕ) → find n (last_forms (log_of k cs)) ≡ last_form n none (log_of k cs)
+    pub last_forms_lem : (n : ℕ) → find n (last_forms (log_of k cs)) ≡ last_form n None (log_of k cs)
     last_forms_lem n = ap (find n) (sym list_survivors) ∙ forms_empty n k cs good no_trades
 
     -- Each survivor's number stands once.
@@ -83,7 +82,7 @@ module _ (k : Book) (is_sound : sound k ≡ true) (shaped : Shaped k) (no_trades
     once = us_once k good no_trades cs day
 
     -- Any list that holds the last accepted form of each number, once, is the survivors in some order (a permutation of a list is mathlib's `Perm`).
-    pub once_each : (us : List Trade) → distinct (numbers_of us) ≡ true → ((n : ℕ) → find n us ≡ last_form n none (log_of k cs)) → Perm us (last_forms (log_of k cs))
+    pub once_each : (us : List Trade) → distinct (numbers_of us) ≡ true → ((n : ℕ) → find n us ≡ last_form n None (log_of k cs)) → Perm us (last_forms (log_of k cs))
     once_each us d f = same_order us (last_forms (log_of k cs)) d once (λ n. f n ∙ sym (last_forms_lem n))
 
     -- Any other day with the same accepted deposits, withdrawals and runs in the same order and the same survivors, entered in any order and however they
@@ -188,14 +187,14 @@ module _ (codes : List ℕ) (long : length codes ≡ securities) (known : all is
 
     -- So demand 3 needs no word for the survivors: any list that holds the last accepted form of each number of the day, once, may be entered so.
     pub history_by_forms : let m = morning begin cs in let d = today begin cs in
-        (us : List Trade) → distinct (numbers_of us) ≡ true → ((n : ℕ) → find n us ≡ last_form n none (log_of m d)) → (ds : List Call) → Interleaved (others m d) us ds
+        (us : List Trade) → distinct (numbers_of us) ≡ true → ((n : ℕ) → find n us ≡ last_form n None (log_of m d)) → (ds : List Call) → Interleaved (others m d) us ds
         → (log_of m ds ≡ ds) × SameRoll (made begin cs) (made m ds)
     history_by_forms us e f =
         history_any_way us
         (once_each (morning begin cs) morning_good.sound morning_good.shaped (morning_list begin cs begin_list) (today begin cs) (today_rolls begin cs) us e f)
 
     -- Each survivor is in its last accepted form of the day, its number stands once, and the book's own list has the same survivors.
-    pub history_forms : let log = log_of (morning begin cs) (today begin cs) in (n : ℕ) → find n (last_forms log) ≡ last_form n none log
+    pub history_forms : let log = log_of (morning begin cs) (today begin cs) in (n : ℕ) → find n (last_forms log) ≡ last_form n None log
     history_forms =
         last_forms_lem (morning begin cs) morning_good.sound morning_good.shaped (morning_list begin cs begin_list) (today begin cs) (today_rolls begin cs)
 
@@ -328,14 +327,14 @@ any_bytes bs cs h long ok fit =
 
 -- ── call files: the book that a file of bytes leaves is one that a history from an empty book reaches, so that all of the above holds of it ──
 
-module _ (file codes : List ℕ) (bytes : Bytes file) (created : (contents_of file).codes ≡ some codes) where
+module _ (file codes : List ℕ) (bytes : Bytes file) (created : (contents_of file).codes ≡ Some codes) where
   pub file_codes : (length codes ≡ securities) × (all is_code codes ≡ true)
   file_codes = (file_well file bytes).codes codes created
 
   pub file_calls : AllFit (contents_of file).calls
   file_calls = (file_well file bytes).calls
 
-  pub file_history : (file_of file).book ≡ some (made (empty_book codes) (contents_of file).calls)
+  pub file_history : (file_of file).book ≡ Some (made (empty_book codes) (contents_of file).calls)
   file_history = file_made file codes created
 
 -- ── every public call: the words are in Publics ──

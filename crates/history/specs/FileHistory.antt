@@ -1,8 +1,7 @@
 -- A call file is a history: the create's codes make an empty book, the calls behind it fit their types, and the book that the file leaves is the one that these
 -- calls reach from it.
-use Rattle.std.specs.Prelude.{◌≡◌, refl, Bool, true, false, List, [], ◌∷◌, ℕ}
+use Rattle.std.specs.Prelude.{◌≡◌, refl, Bool, true, false, List, [], ◌∷◌, ℕ, Option, Some, None}
 use Rattle.std.proofs.Common.{sym, ap, subst}
-use Rattle.std.proofs.Math.Option.{Option, some, none}
 use Rattle.fields.specs.Field.{Bytes}
 use Rattle.rules.specs.Book.{empty_book}
 use Rattle.rules.specs.Calls.{Call}
@@ -17,16 +16,16 @@ use Rattle.history.specs.FileRecords.{GoodCodes, Proper, AllProper, file_proper}
 -- ── what was read ──
 
 pub record WellRead (c : Contents) : Type 0 where
-  pub codes : (codes : List ℕ) → c.codes ≡ some codes → GoodCodes codes
+  pub codes : (codes : List ℕ) → c.codes ≡ Some codes → GoodCodes codes
   pub calls : AllFit c.calls
 
 abbrev codes_in : Option (List ℕ) → List ℕ
-codes_in none = []
-codes_in (some codes) = codes
+codes_in None = []
+codes_in (Some codes) = codes
 
 abbrev is_some : Option (List ℕ) → Bool
-is_some none = false
-is_some (some codes) = true
+is_some None = false
+is_some (Some codes) = true
 
 before_well : (r : Placed) (x : Record) (rest : Contents) → Proper x → WellRead rest → WellRead (before r x rest)
 unfolding before Proper AllFit
@@ -45,11 +44,11 @@ file_well file h = contents_well (records_in file) (file_proper file h)
 
 -- ── the book that is left ──
 
-pub played_made : (k : Book) (cs : List Call) → (played k cs).book ≡ some (made k cs)
+pub played_made : (k : Book) (cs : List Call) → (played k cs).book ≡ Some (made k cs)
 unfolding played made
 played_made k [] = refl
 played_made k (c ∷ cs) = played_made (left k c) cs
 
-pub file_made : (file codes : List ℕ) → (contents_of file).codes ≡ some codes → (file_of file).book ≡ some (made (empty_book codes) (contents_of file).calls)
+pub file_made : (file codes : List ℕ) → (contents_of file).codes ≡ Some codes → (file_of file).book ≡ Some (made (empty_book codes) (contents_of file).calls)
 unfolding file_of played_from
 file_made file codes e = rw e (played_made (empty_book codes) (contents_of file).calls)

@@ -1,9 +1,8 @@
 -- A number survives in the form of its last accepted entry or amendment, where no accepted exclusion stands behind it: by the log, not by the list.
-use Rattle.std.specs.Prelude.{◌≡◌, refl, true, false, not, List, [], ◌∷◌, ℕ, eqb, ltb}
+use Rattle.std.specs.Prelude.{◌≡◌, refl, true, false, not, List, [], ◌∷◌, ℕ, eqb, ltb, Option, Some, None}
 use Rattle.std.proofs.Common.{sym, ◌∙◌, arith, eqb-true, eq-eqb, ne_eqb, ltb-false}
 use Rattle.std.proofs.Math.Path.{ap}
 use Rattle.std.proofs.Math.Bool.{cond}
-use Rattle.std.proofs.Math.Option.{Option, some, none}
 use Rattle.rules.specs.Words.{any}
 use Rattle.rules.specs.Bounds.{most_traded}
 use Rattle.rules.specs.Book.{list_of, with_open, with_list, with_charges, with_day}
@@ -29,14 +28,14 @@ use Rattle.history.specs.Logs.{made_yes, log_yes, made_no, log_no}
 unfoldable standing : ℕ → List Trade → Option Trade
 standing n ts = find n (survivors ts)
 
-standing_none : (n : ℕ) → standing n [] ≡ none
+standing_none : (n : ℕ) → standing n [] ≡ None
 unfolding standing survivors find
 standing_none n = rw keep_none
 
 module _ (n : ℕ) (t : Trade) (ts : List Trade) where
-  stand_here : eqb t.number n ≡ true → live t ≡ true → standing n (t ∷ ts) ≡ some t
+  stand_here : eqb t.number n ≡ true → live t ≡ true → standing n (t ∷ ts) ≡ Some t
   unfolding standing survivors find
-  stand_here e l = rw (keep_yes live t ts l) (cond_yes (some t) (find n (survivors ts)) e)
+  stand_here e l = rw (keep_yes live t ts l) (cond_yes (Some t) (find n (survivors ts)) e)
 
   stand_gone : live t ≡ false → standing n (t ∷ ts) ≡ standing n ts
   unfolding standing survivors
@@ -44,18 +43,18 @@ module _ (n : ℕ) (t : Trade) (ts : List Trade) where
 
   stand_other : eqb t.number n ≡ false → standing n (t ∷ ts) ≡ standing n ts
   unfolding standing survivors find
-  stand_other e = by_test (live t) (λ l. rw (keep_yes live t ts l) (cond_no (some t) (find n (survivors ts)) e)) (λ l. rw (keep_no live t ts l))
+  stand_other e = by_test (live t) (λ l. rw (keep_yes live t ts l) (cond_no (Some t) (find n (survivors ts)) e)) (λ l. rw (keep_no live t ts l))
 
   stand_behind : (us : List Trade) → standing n ts ≡ standing n us → standing n (t ∷ ts) ≡ standing n (t ∷ us)
   unfolding standing survivors find
   stand_behind us h =
       by_test (live t)
-      (λ l. rw (keep_yes live t ts l, keep_yes live t us l) (ap (λ (o : Option Trade). cond (eqb t.number n) (some t) o) h))
+      (λ l. rw (keep_yes live t ts l, keep_yes live t us l) (ap (λ (o : Option Trade). cond (eqb t.number n) (Some t) o) h))
       (λ l. rw (keep_no live t ts l, keep_no live t us l) h)
 
 -- ── entry ──
 
-entered_same : (ts : List Trade) (t : Trade) → live t ≡ true → used t.number ts ≡ false → standing t.number (entered ts t) ≡ some t
+entered_same : (ts : List Trade) (t : Trade) → live t ≡ true → used t.number ts ≡ false → standing t.number (entered ts t) ≡ Some t
 unfolding entered used any
 entered_same [] t l u = stand_here t.number t [] (eq-eqb t.number t.number refl) l
 entered_same (x ∷ ts) t l u =
@@ -93,7 +92,7 @@ replaced_other n m t (u ∷ ts) e d =
     (λ y. ap (standing n) (replaced_past ts u m t y) ∙ stand_behind n u (replaced ts m t) ts ih)
 
 -- the number itself: a trade that stands is amended
-amended_same : (t : Trade) (ts : List Trade) → live t ≡ true → stands t.number ts ≡ true → standing t.number (replaced ts t.number t) ≡ some t
+amended_same : (t : Trade) (ts : List Trade) → live t ≡ true → stands t.number ts ≡ true → standing t.number (replaced ts t.number t) ≡ Some t
 unfolding stands any
 amended_same t [] l h = true_false h refl
 amended_same t (u ∷ ts) l h =
@@ -104,7 +103,7 @@ amended_same t (u ∷ ts) l h =
     ∙ amended_same t ts l (rw y at h))
 
 -- or excluded
-excluded_same : (m : ℕ) (ts : List Trade) → standing m (replaced ts m (excluded_trade m)) ≡ none
+excluded_same : (m : ℕ) (ts : List Trade) → standing m (replaced ts m (excluded_trade m)) ≡ None
 unfolding is_excluded
 excluded_same m [] = ap (standing m) (replaced_none m (excluded_trade m)) ∙ standing_none m
 excluded_same m (u ∷ ts) =
@@ -170,6 +169,6 @@ forms n k (c ∷ cs) g =
     ∙ ap (last_form n (standing n (list_of k))) (sym (log_no k c cs y)))
 
 -- from an empty list
-pub forms_empty : (n : ℕ) (k : Book) (cs : List Call) → Good k → list_of k ≡ [] → find n (survivors (list_of (made k cs))) ≡ last_form n none (log_of k cs)
+pub forms_empty : (n : ℕ) (k : Book) (cs : List Call) → Good k → list_of k ≡ [] → find n (survivors (list_of (made k cs))) ≡ last_form n None (log_of k cs)
 unfolding standing
 forms_empty n k cs g e = forms n k cs g ∙ ap (λ (o : Option Trade). last_form n o (log_of k cs)) (ap (standing n) e ∙ standing_none n)

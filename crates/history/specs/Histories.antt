@@ -1,7 +1,6 @@
 -- Histories: calls made one after another, refused ones among them; and the words that the theorems about them are written in.
 -- (Document 01, "Refusal numbers": a refused call alters nothing; demand 3.)
-use Rattle.std.specs.Prelude.{◌≡◌, Bool, true, false, cond, not, List, [], ◌∷◌, ◌++◌, map, ℕ, eqb}
-use Rattle.std.proofs.Math.Option.{Option, some, none}
+use Rattle.std.specs.Prelude.{◌≡◌, Bool, true, false, cond, not, List, [], ◌∷◌, ◌++◌, map, ℕ, eqb, Option, Some, None}
 use Rattle.rules.specs.Words.{any, keep}
 use Rattle.rules.specs.Trades.{is_excluded}
 use Rattle.rules.specs.Calls.{Call, enter, amend, exclude, roll, deposit, withdraw, run, after, answer}
@@ -92,10 +91,10 @@ pub data Interleaved : List Call → List Trade → List Call → Type 0 where
 -- ── the last accepted form of a number, by the log alone ──
 
 unfoldable pub form_after : ℕ → Option Trade → Call → Option Trade
-form_after n o (enter t) = cond (eqb t.number n) (some t) o
-form_after n o (amend t) = cond (eqb t.number n) (some t) o
-form_after n o (exclude m) = cond (eqb m n) none o
-form_after n o roll = none
+form_after n o (enter t) = cond (eqb t.number n) (Some t) o
+form_after n o (amend t) = cond (eqb t.number n) (Some t) o
+form_after n o (exclude m) = cond (eqb m n) None o
+form_after n o roll = None
 form_after n o (deposit a s q) = o
 form_after n o (withdraw a s q) = o
 form_after n o (run s) = o
@@ -107,8 +106,8 @@ last_form n o (c ∷ cs) = last_form n (form_after n o c) cs
 
 -- the trade of a number in a list
 unfoldable pub find : ℕ → List Trade → Option Trade
-find n [] = none
-find n (t ∷ ts) = let other = find n ts in cond (eqb t.number n) (some t) other
+find n [] = None
+find n (t ∷ ts) = let other = find n ts in cond (eqb t.number n) (Some t) other
 
 -- the trades of a list that are not excluded, in their order
 unfoldable pub survivors : List Trade → List Trade

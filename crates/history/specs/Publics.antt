@@ -1,8 +1,7 @@
 -- Every public call over the lent bytes of a book, and histories of them (demand 3: "make any calls but creation, in any order"; docs/PROMISES.md lists the calls).
 -- Seven alter the book. The price question, marks and a line leave it. A record of a call file is the call that it holds. A create record, a whole file and a
 -- whole sheet begin with creation, and so a new history; where they are refused, or unreadable at the front, they alter nothing.
-use Rattle.std.specs.Prelude.{Bool, true, false, cond, ◌||◌, List, [], ◌∷◌, ◌++◌, ℕ, eqb}
-use Rattle.std.proofs.Math.Option.{Option, some, none}
+use Rattle.std.specs.Prelude.{Bool, true, false, cond, ◌||◌, List, [], ◌∷◌, ◌++◌, ℕ, eqb, Option, Some, None}
 use Rattle.fields.specs.Field.{Bytes}
 use Rattle.rules.specs.Book.{empty_book}
 use Rattle.rules.specs.Layout.{bytes_of}
@@ -56,8 +55,8 @@ deed_of_record (call c) = makes (c ∷ [])
 deed_of_record unreadable = makes []
 
 unfoldable pub deed_of_file : Option (List ℕ) → List Call → Deed
-deed_of_file none cs = makes []
-deed_of_file (some codes) cs = begins codes cs
+deed_of_file None cs = makes []
+deed_of_file (Some codes) cs = begins codes cs
 
 unfoldable pub deed : List ℕ → Public → Deed
 deed bs (creation codes) = cond (eqb (create_answer bs codes) 0) (begins codes []) (makes [])

@@ -1,6 +1,5 @@
 -- The whole call file (document 01, "Call file and sheet"): its records in order, the answers that they get, and the book that they leave.
-use Rattle.std.specs.Prelude.{Bool, true, false, cond, ◌||◌, List, [], ◌∷◌, ◌++◌, ℕ, zero, suc, eqb, length, drop}
-use Rattle.std.proofs.Math.Option.{Option, some, none}
+use Rattle.std.specs.Prelude.{Bool, true, false, cond, ◌||◌, List, [], ◌∷◌, ◌++◌, ℕ, zero, suc, eqb, length, drop, Option, Some, None}
 use Rattle.fields.specs.Field.{digits}
 use Rattle.rules.specs.Words.{each, above}
 use Rattle.rules.specs.Book.{empty_book}
@@ -48,12 +47,12 @@ pub record Contents : Type 0 where
   pub place : Option ℕ
 
 unfoldable pub before : Placed → Record → Contents → Contents
-before r (create codes) rest = record { codes = some codes; calls = rest.calls; place = rest.place }
+before r (create codes) rest = record { codes = Some codes; calls = rest.calls; place = rest.place }
 before r (call c) rest = record { codes = rest.codes; calls = c ∷ rest.calls; place = rest.place }
-before r unreadable rest = record { codes = none; calls = []; place = some r.place }
+before r unreadable rest = record { codes = None; calls = []; place = Some r.place }
 
 unfoldable pub contents : List Placed → Contents
-contents [] = record { codes = none; calls = []; place = none }
+contents [] = record { codes = None; calls = []; place = None }
 contents (r ∷ rs) = before r r.says (contents rs)
 
 unfoldable pub contents_of : List ℕ → Contents
@@ -79,20 +78,20 @@ unfoldable pub left : Book → Call → Book
 left k c = cond (eqb (answer k c) 0) (after k c) k
 
 unfoldable pub played : Book → List Call → Played
-played k [] = record { answers = []; book = some k }
+played k [] = record { answers = []; book = Some k }
 played k (c ∷ cs) = let r = played (left k c) cs in record { answers = answered k c ∷ r.answers; book = r.book }
 
 -- the create is the record of index 0; it is accepted and begins a new history
 unfoldable pub played_from : Option (List ℕ) → List Call → Played
-played_from none cs = record { answers = []; book = none }
-played_from (some codes) cs =
+played_from None cs = record { answers = []; book = None }
+played_from (Some codes) cs =
     let r = played (empty_book codes) cs in
     record { answers = record { number = 0; figure = 0 } ∷ r.answers; book = r.book }
 
 -- A 19 is the answer of the unreadable record's own call, and its figure is the place; those before it stand.
 unfoldable pub nineteen : Option ℕ → List Answer
-nineteen none = []
-nineteen (some place) = record { number = 19; figure = place } ∷ []
+nineteen None = []
+nineteen (Some place) = record { number = 19; figure = place } ∷ []
 
 unfoldable pub file_of : List ℕ → Played
 file_of file =
@@ -123,8 +122,8 @@ whole_answers book file answers =
 
 -- the book that the file leaves: as it was where none came into being
 unfoldable pub bytes_left : List ℕ → Option Book → List ℕ
-bytes_left old none = old
-bytes_left old (some k) = bytes_of k
+bytes_left old None = old
+bytes_left old (Some k) = bytes_of k
 
 unfoldable pub whole_bytes : List ℕ → List ℕ → List ℕ → List ℕ
 whole_bytes book file answers = cond (whole_refused book file answers) book (bytes_left book (file_of file).book)

@@ -1,6 +1,5 @@
 -- The sheet (document 01, "Call file and sheet"): the text of a line, the lines of a file, and the writing of a line with its tally.
-use Rattle.std.specs.Prelude.{Bool, cond, not, ◌&&◌, ◌||◌, List, [], ◌∷◌, ◌++◌, map, ℕ, zero, suc, ◌+◌, ◌/◌, ◌%◌, eqb, leb, ltb, length, drop, ℤ, pos, negsuc}
-use Rattle.std.proofs.Math.Option.{Option, some, none}
+use Rattle.std.specs.Prelude.{Bool, cond, not, ◌&&◌, ◌||◌, List, [], ◌∷◌, ◌++◌, map, ℕ, zero, suc, ◌+◌, ◌/◌, ◌%◌, eqb, leb, ltb, length, drop, ℤ, pos, negsuc, Option, Some, None}
 use Rattle.units.specs.Units.{shares_of, mils_of, mils}
 use Rattle.rules.specs.Words.{each, text, above}
 use Rattle.rules.specs.Bounds.{every_account, every_currency, most_tally}
@@ -70,8 +69,8 @@ charge_lines k = each (λ a. each (charge_line k a) every_currency) every_accoun
 
 -- if a book exists, DAY, P, C;
 unfoldable pub book_lines : Option Book → List Line
-book_lines none = []
-book_lines (some k) = Day k.day ∷ (map open_line (open_of k) ++ charge_lines k)
+book_lines None = []
+book_lines (Some k) = Day k.day ∷ (map open_line (open_of k) ++ charge_lines k)
 
 -- last in every sheet E and the lines above it.
 unfoldable pub ended : List Line → List Line

@@ -1,10 +1,9 @@
 -- The sheet of the answers that a file writes is the sheet of the file: the answers are read back from their bytes, and the first of them says
 -- whether a book exists.
-use Rattle.std.specs.Prelude.{◌≡◌, refl, Bool, true, false, cond, ◌&&◌, ◌||◌, ℕ, suc, ◌*◌, ◌≤◌, eqb, length, drop}
+use Rattle.std.specs.Prelude.{◌≡◌, refl, Bool, true, false, cond, ◌&&◌, ◌||◌, ℕ, suc, ◌*◌, ◌≤◌, eqb, length, drop, Option, Some, None}
 use Rattle.std.proofs.Common.{sym, ◌∙◌, arith, length-append}
 use Rattle.std.proofs.Math.Path.{ap, ap₂}
 use mathlib.Core.List.{List, [], ◌∷◌, ◌++◌}
-use Rattle.std.proofs.Math.Option.{Option, some, none}
 use Rattle.fields.specs.Field.{Bytes, field, digits}
 use Rattle.rules.specs.Words.{all, each}
 use Rattle.rules.specs.Bounds.{most_records}
@@ -98,9 +97,9 @@ begun_file file = go (other_version file)
 first_answer : (codes : Option (List ℕ)) (cs : List Call) (place : Option ℕ) (rest : List ℕ) → is_there codes || is_there place ≡ true
     → eqb (field 1 0 (each code ((played_from codes cs).answers ++ nineteen place) ++ rest)) 0 ≡ is_there (played_from codes cs).book
 unfolding is_there played_from nineteen each digits field
-first_answer (some codes) cs place rest h = sym (played_there (empty_book codes) cs)
-first_answer none cs (some place) rest h = refl
-first_answer none cs none rest h = true_false h refl
+first_answer (Some codes) cs place rest h = sym (played_there (empty_book codes) cs)
+first_answer None cs (Some place) rest h = refl
+first_answer None cs None rest h = true_false h refl
 
 pub exists_is : (file rest : List ℕ) → eqb (field 1 0 (answers_of file ++ rest)) 0 ≡ is_there (file_of file).book
 unfolding Begun file_of
@@ -109,10 +108,10 @@ exists_is file rest =
     ap (λ (bs : List ℕ). eqb (field 1 0 (bs ++ rest)) 0) (bytes_are file) ∙ first_answer c.codes c.calls c.place rest (begun_file file)
 
 -- the book that the sheet is of, if k is that of the file where there is one
-pub book_is : (exists : Bool) (k : Book) (b : Option Book) → exists ≡ is_there b → ((m : Book) → b ≡ some m → k ≡ m) → book_if exists k ≡ b
+pub book_is : (exists : Bool) (k : Book) (b : Option Book) → exists ≡ is_there b → ((m : Book) → b ≡ Some m → k ≡ m) → book_if exists k ≡ b
 unfolding book_if is_there
-book_is exists k none e h = cond_no (some k) none e
-book_is exists k (some m) e h = cond_yes (some k) none e ∙ ap some (h m refl)
+book_is exists k None e h = cond_no (Some k) None e
+book_is exists k (Some m) e h = cond_yes (Some k) None e ∙ ap Some (h m refl)
 
 -- ── the sheet of the file ──
 

@@ -1,7 +1,6 @@
 -- The sheet of the answers in some bytes and a book, and what is asked of them.
-use Rattle.std.specs.Prelude.{◌≡◌, refl, Bool, true, false, cond, List, [], ◌∷◌, ◌++◌, map, ℕ, ◌*◌, ◌≤◌, length, take, drop}
+use Rattle.std.specs.Prelude.{◌≡◌, refl, Bool, true, false, cond, List, [], ◌∷◌, ◌++◌, map, ℕ, ◌*◌, ◌≤◌, length, take, drop, Option, Some, None}
 use Rattle.std.proofs.Common.{sym, ap, ap₂, ◌∙◌, append_assoc, zero-add, arith, length-append}
-use Rattle.std.proofs.Math.Option.{Option, some, none}
 use Rattle.fields.specs.Field.{stored}
 use Rattle.fields.specs.FieldLaws.{stored_eq}
 use Rattle.rules.specs.Words.{all, each}
@@ -20,7 +19,7 @@ use Rattle.sheet.specs.BookLines.{entry_lines, charges_are}
 -- ── definitions ──
 
 unfoldable pub book_if : Bool → Book → Option Book
-book_if exists k = cond exists (some k) none
+book_if exists k = cond exists (Some k) None
 
 -- the lines above the last
 unfoldable pub lines_above : ℕ → List ℕ → Bool → Book → List Line
@@ -43,17 +42,17 @@ pub record Printable (count : ℕ) (answers : List ℕ) (exists : Bool) (k : Boo
 
 -- ── the book's lines ──
 
-pub book_lines_lem : (k : Book) → book_lines (some k) ≡ (Day k.day ∷ []) ++ (map open_line (take k.records k.positions) ++ entry_lines k.charges)
+pub book_lines_lem : (k : Book) → book_lines (Some k) ≡ (Day k.day ∷ []) ++ (map open_line (take k.records k.positions) ++ entry_lines k.charges)
 unfolding book_lines open_of
 book_lines_lem k = ap (λ (l : List Line). Day k.day ∷ (map open_line (open_of k) ++ l)) (charges_are k)
 
-pub book_yes : (exists : Bool) (k : Book) → exists ≡ true → book_lines (some k) ≡ book_lines (book_if exists k)
+pub book_yes : (exists : Bool) (k : Book) → exists ≡ true → book_lines (Some k) ≡ book_lines (book_if exists k)
 unfolding book_if
-book_yes exists k e = ap (λ (b : Bool). book_lines (cond b (some k) none)) (sym e)
+book_yes exists k e = ap (λ (b : Bool). book_lines (cond b (Some k) None)) (sym e)
 
 pub book_no : (exists : Bool) (k : Book) → exists ≡ false → [] ≡ book_lines (book_if exists k)
 unfolding book_if book_lines
-book_no exists k e = ap (λ (b : Bool). book_lines (cond b (some k) none)) (sym e)
+book_no exists k e = ap (λ (b : Bool). book_lines (cond b (Some k) None)) (sym e)
 
 few_book : (exists : Bool) (k : Book) → (exists ≡ true → k.records ≤ most_records) → length (book_lines (book_if exists k)) ≤ 1_281
 unfolding book_if

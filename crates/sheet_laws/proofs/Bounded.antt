@@ -1,9 +1,8 @@
 -- The sheet of every file has at most 23,128 lines and 295,620 bytes (specs/Bounded: `most_lines`, `most_bytes`), so that no sheet passes a tally's limit, and
 -- none is refused by the program.
-use Rattle.std.specs.Prelude.{◌≡◌, refl, false, ℕ, ◌+◌, ◌≤◌}
+use Rattle.std.specs.Prelude.{◌≡◌, refl, false, ℕ, ◌+◌, ◌≤◌, Option, Some, None}
 use Rattle.std.proofs.Math.Path.{ap}
 use mathlib.Core.List.{List, [], ◌∷◌, ◌++◌}
-use Rattle.std.proofs.Math.Option.{Option, some, none}
 use Rattle.std.proofs.Common.{arith, eq-eqb, le-leb, le-ltb}
 use Rattle.std.proofs.Math.ListN.{length, drop, length-append}
 use Rattle.fields.specs.Field.{Bytes}
@@ -34,8 +33,8 @@ record Short (ls : List Line) : Type 0 where
 
 book_lines_lem : (file : List ℕ) → Bytes file → (b : Option Book) → (file_of file).book ≡ b → Short (book_lines b)
 unfolding book_lines each
-book_lines_lem file h none e = record { few = omega arith; short = omega arith }
-book_lines_lem file h (some k) e =
+book_lines_lem file h None e = record { few = omega arith; short = omega arith }
+book_lines_lem file h (Some k) e =
     let ok = (file_left file h k e).is_sound in
     record { few = few_book_lines k (sound_runnable k ok).few; short = book_short k ok }
 

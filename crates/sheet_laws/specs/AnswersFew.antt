@@ -1,9 +1,8 @@
 -- The answers of a whole file are at most 21,846: one for each record, and a readable record has at least 3 bytes.
-use Rattle.std.specs.Prelude.{◌≡◌, refl, true, false, List, [], ◌∷◌, ℕ, zero, suc, ◌+◌, ◌*◌, ◌-◌, ◌≤◌, eqb, ltb, length, take, drop}
+use Rattle.std.specs.Prelude.{◌≡◌, refl, true, false, List, [], ◌∷◌, ℕ, zero, suc, ◌+◌, ◌*◌, ◌-◌, ◌≤◌, eqb, ltb, length, take, drop, Option, Some, None}
 use Rattle.std.proofs.Common.{sym, ap, ◌∙◌, arith, length-append, length-take, length-drop, ne_eqb, ltb-true, ltb-false}
 use Rattle.std.proofs.Math.Bool.{and-false}
 use Rattle.std.proofs.Math.Logic.{dite}
-use Rattle.std.proofs.Math.Option.{Option, some, none}
 use Rattle.std.proofs.Math.Decide.{ℕ_discrete}
 use Rattle.fields.specs.Field.{field}
 use Rattle.rules.specs.Words.{all}
@@ -103,8 +102,8 @@ count_records file h =
 
 -- an answer for each record
 unfoldable ones : {A : Type 0} → Option A → ℕ
-ones none = 0
-ones (some a) = 1
+ones None = 0
+ones (Some a) = 1
 
 unfoldable sized : Contents → ℕ
 sized c = ones c.codes + length c.calls + ones c.place
@@ -127,13 +126,13 @@ length_played k (c ∷ cs) = ap suc (length_played (left k c) cs)
 
 length_from_create : (codes : Option (List ℕ)) (cs : List Call) → length (played_from codes cs).answers ≤ ones codes + length cs
 unfolding played_from ones
-length_from_create none cs = omega arith
-length_from_create (some codes) cs = omega (arith, length_played (empty_book codes) cs)
+length_from_create None cs = omega arith
+length_from_create (Some codes) cs = omega (arith, length_played (empty_book codes) cs)
 
 length_nineteen : (place : Option ℕ) → length (nineteen place) ≡ ones place
 unfolding nineteen ones
-length_nineteen none = refl
-length_nineteen (some place) = refl
+length_nineteen None = refl
+length_nineteen (Some place) = refl
 
 pub file_few : (file : List ℕ) → too_long file ≡ false → length (file_of file).answers ≤ 21_846
 unfolding file_of contents_of sized

@@ -1,6 +1,5 @@
 -- What the answers of a whole file fit into: a number in two digits, and so in 1 byte; a figure in 8; the place of a 19 is within the file.
-use Rattle.std.specs.Prelude.{◌≡◌, refl, Bool, true, false, cond, not, List, [], ◌∷◌, ◌++◌, ℕ, zero, suc, ◌+◌, ◌*◌, ◌^◌, ◌≤◌, ◌<◌, eqb, leb, ltb, length, drop}
-use Rattle.std.proofs.Math.Option.{Option, some, none}
+use Rattle.std.specs.Prelude.{◌≡◌, refl, Bool, true, false, cond, not, List, [], ◌∷◌, ◌++◌, ℕ, zero, suc, ◌+◌, ◌*◌, ◌^◌, ◌≤◌, ◌<◌, eqb, leb, ltb, length, drop, Option, Some, None}
 use Rattle.std.proofs.Common.{arith, length-take, length-drop, ne_eqb, eqb-true, ltb-true, le-leb, leb-true}
 use Rattle.std.proofs.lemmas.Bool.{not-false}
 use Rattle.units.specs.Units.{most_shares}
@@ -122,20 +121,20 @@ created_fits = record { number = omega arith; figure = omega arith; place = λ e
 
 fit_from : (codes : Option (List ℕ)) (cs : List Call) → AllFit (played_from codes cs).answers
 unfolding played_from
-fit_from none cs = fit_none
-fit_from (some codes) cs = fit_more created_fits (fit_played (empty_book codes) cs)
+fit_from None cs = fit_none
+fit_from (Some codes) cs = fit_more created_fits (fit_played (empty_book codes) cs)
 
 -- ── the place of a 19 ──
 
 -- a place is at most so far
 unfoldable within : ℕ → Option ℕ → Bool
-within top none = true
-within top (some place) = leb place top
+within top None = true
+within top (Some place) = leb place top
 
 fit_nineteen : (place : Option ℕ) → within most_file place ≡ true → AllFit (nineteen place)
 unfolding nineteen within
-fit_nineteen none e = fit_none
-fit_nineteen (some place) e =
+fit_nineteen None e = fit_none
+fit_nineteen (Some place) e =
     let far = leb-true place most_file e in
     let fits : Fits (record { number = 19; figure = place }) = record { number = omega arith; figure = omega arith; place = λ is. far } in
     fit_more fits fit_none

@@ -1,8 +1,7 @@
 -- The lines of a book: DAY, at most 1,024 P, at most 256 C; and where the book is sound at most 10, 47 and 28 bytes of each.
-use Rattle.std.specs.Prelude.{◌≡◌, refl, Bool, true, false, cond, ◌&&◌, ℕ, ◌+◌, ◌*◌, ◌≤◌, ◌<◌, leb, nat_abs}
+use Rattle.std.specs.Prelude.{◌≡◌, refl, Bool, true, false, cond, ◌&&◌, ℕ, ◌+◌, ◌*◌, ◌≤◌, ◌<◌, leb, nat_abs, Some}
 use Rattle.std.proofs.Math.Path.{ap}
 use mathlib.Core.List.{List, [], ◌∷◌, ◌++◌, map}
-use Rattle.std.proofs.Math.Option.{some}
 use native.Mathlib.Omega.{arith}
 use Rattle.std.proofs.Math.Dec.{ltb}
 use Rattle.std.proofs.Math.ListN.{length}
@@ -48,7 +47,7 @@ few_charges k =
     λ a. length_each (charge_line k a) 1 every_currency (all_by (λ c. leb (length (charge_line k a c)) 1) every_currency (λ c. le-leb (length (charge_line k a c)) 1 (one_charge k a c))) in
     omega (arith, length_each of currencies every_account (all_by (λ a. leb (length (of a)) currencies) every_account (λ a. le-leb (length (of a)) currencies (four a))))
 
-pub few_book_lines : (k : Book) → k.records ≤ most_records → length (book_lines (some k)) ≤ 1_281
+pub few_book_lines : (k : Book) → k.records ≤ most_records → length (book_lines (Some k)) ≤ 1_281
 unfolding book_lines
 few_book_lines k h = omega (arith, length-append (map open_line (open_of k)) (charge_lines k), few_open k h, few_charges k)
 
@@ -93,7 +92,7 @@ module _ (k : Book) (ok : sound k ≡ true) where
       (λ a h. each_all_in (λ c. ltb c currencies) (narrow 28) (charge_line k a) every_currency currencies_below
       (λ c l. charge_narrow a c (ltb-true a accounts h) (ltb-true c currencies l)))
 
-  pub book_short : length (each text_of (book_lines (some k))) ≤ 10 + 47 * most_records + 28 * (accounts * currencies)
+  pub book_short : length (each text_of (book_lines (Some k))) ≤ 10 + 47 * most_records + 28 * (accounts * currencies)
   unfolding book_lines
   book_short =
       let ps = map open_line (open_of k) in
