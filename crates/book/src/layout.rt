@@ -20,14 +20,14 @@ pub const CHARGES: usize = 36_900;
 
 pub const ENTRIES: usize = 38_948;
 
-pub(crate) const TRADES: usize = 38_950;
+pub const TRADES: usize = 38_950;
 
-pub const CODE_BYTES: usize = 1;
+pub(crate) const CODE_BYTES: usize = 1;
 
-pub const POSITION_BYTES: usize = 20;
+pub(crate) const POSITION_BYTES: usize = 20;
 
-pub const HOLDING_BYTES: usize = 8;
+pub(crate) const HOLDING_BYTES: usize = 8;
 
-pub const CHARGE_BYTES: usize = 8;
+pub(crate) const CHARGE_BYTES: usize = 8;
 
 pub(crate) const TRADE_BYTES: usize = 13;

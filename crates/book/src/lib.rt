@@ -7,6 +7,7 @@ mod codes;
 mod holdings;
 mod layout;
 mod positions;
+mod rows;
 mod trades;
 mod words;
 mod zeros;
@@ -17,16 +18,15 @@ ghost use Rattle.rules.specs.Layout.{book_of};
 ghost use Rattle.book.specs.Replacing.{Holds, with_rows};
 
 pub use charges::{charge_at, clear_charges, put_charge};
-pub use codes::{code_at, codes_at, codes_of};
+pub use codes::{code_at, codes_of};
 use fields::{get, put};
 pub use holdings::{holding_at, put_holding};
 pub use layout::{
-    BOOK_BYTES, BookBytes, CHARGE_BYTES, CHARGES, CODE_BYTES, CODES, DAY, ENTRIES, HOLDING_BYTES,
-    HOLDINGS, POSITION_BYTES, POSITIONS, RECORDS,
+    BOOK_BYTES, BookBytes, CHARGES, CODES, DAY, ENTRIES, HOLDINGS, POSITIONS, RECORDS, TRADES,
 };
-pub use positions::{position_at, positions_at, positions_of, put_position, put_row};
-pub use trades::{clear_list, put_list, put_trades, trade_at, trades_at, trades_of};
-pub use words::word;
+pub use positions::{position_at, positions_of, put_position};
+pub use rows::{Row, put_rows, rows_at};
+pub use trades::{clear_list, put_list, trade_at, trades_of};
 
 // The day where it stands.
 pub fn day_at(b: &BookBytes) -> u16

@@ -4,7 +4,7 @@ ghost use Rattle.fields.specs.Field.{field};
 
 use fields::get;
 
-pub fn word(b: &[u8], at: usize) -> u64
+pub(crate) fn word(b: &[u8], at: usize) -> u64
     requires { at + 8 ≤ length b.now }
     ensures { result ≡ field 8 at b.now }
 {

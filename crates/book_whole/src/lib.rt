@@ -5,36 +5,26 @@
 ghost use Rattle.std.specs.Prelude.{◌≡◌};
 ghost use Rattle.rules.specs.Layout.{book_of, bytes_of};
 
-use book::{BookBytes, DAY, ENTRIES, RECORDS, codes_at, positions_at, put_trades, trades_at};
+use book::{
+    BookBytes, CHARGES, CODES, DAY, ENTRIES, HOLDINGS, POSITIONS, RECORDS, TRADES, put_rows,
+    rows_at,
+};
 use fields::{get, put};
 use rules::Book;
-
-mod charges;
-mod codes;
-mod holdings;
-mod positions;
 
 // The book that some bytes are.
 pub fn load(b: &BookBytes) -> Book
     ensures { result ≡ book_of b.now }
 {
-    let day = get(b, DAY, 2) as u16;
-    let currency = codes_at(b);
-    let records = get(b, RECORDS, 2) as u16;
-    let positions = positions_at(b);
-    let holdings = holdings::holdings_at(b);
-    let charges = charges::charges_at(b);
-    let entries = get(b, ENTRIES, 2) as u16;
-    let trades = trades_at(b);
     Book {
-        day: day,
-        currency: currency,
-        records: records,
-        positions: positions,
-        holdings: holdings,
-        charges: charges,
-        entries: entries,
-        trades: trades,
+        day: get(b, DAY, 2) as u16,
+        currency: rows_at(b, CODES),
+        records: get(b, RECORDS, 2) as u16,
+        positions: rows_at(b, POSITIONS),
+        holdings: rows_at(b, HOLDINGS),
+        charges: rows_at(b, CHARGES),
+        entries: get(b, ENTRIES, 2) as u16,
+        trades: rows_at(b, TRADES),
     }
 }
 
@@ -42,17 +32,12 @@ pub fn load(b: &BookBytes) -> Book
 pub fn store(k: Book, b: &mut BookBytes)
     ensures { b.new ≡ bytes_of k }
 {
-    let currency = k.currency;
-    let positions = k.positions;
-    let holdings = k.holdings;
-    let charges = k.charges;
-    let trades = k.trades;
     put(b, DAY, 2, k.day as u64);
-    codes::put_codes(currency, b);
+    put_rows(&k.currency, b, CODES);
     put(b, RECORDS, 2, k.records as u64);
-    positions::put_positions(positions, b);
-    holdings::put_holdings(holdings, b);
-    charges::put_charges(charges, b);
+    put_rows(&k.positions, b, POSITIONS);
+    put_rows(&k.holdings, b, HOLDINGS);
+    put_rows(&k.charges, b, CHARGES);
     put(b, ENTRIES, 2, k.entries as u64);
-    put_trades(trades, b);
+    put_rows(&k.trades, b, TRADES);
 }

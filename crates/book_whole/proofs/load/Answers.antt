@@ -5,11 +5,11 @@ use Rattle.book_whole.proofs.load.Goals as goal
 pub returns : goal.returns
 returns c =
     book_read _ _
-    c.get-day.ensures.0
-    c.codes_at-currency.ensures
-    c.get-records.ensures.0
-    c.positions_at-positions.ensures
-    c.holdings_at-holdings.ensures
-    c.charges_at-charges.ensures
-    c.get-entries.ensures.0
-    c.trades_at-trades.ensures
+    c.get.ensures.0
+    c.rows_at.ensures
+    c.get-2.ensures.0
+    c.rows_at-2.ensures
+    c.rows_at-3.ensures
+    c.rows_at-4.ensures
+    c.get-3.ensures.0
+    c.rows_at-5.ensures

@@ -16,10 +16,10 @@ returns c =
     } in
     book_written _ _ _ _ _ _ _ _ _ _ tables c.told-b
     c.put.ensures
-    c.put_codes.ensures
+    c.put_rows.ensures
     c.put-2.ensures
-    c.put_positions.ensures
-    c.put_holdings.ensures
-    c.put_charges.ensures
+    c.put_rows-2.ensures
+    c.put_rows-3.ensures
+    c.put_rows-4.ensures
     c.put-3.ensures
-    c.put_trades.ensures
+    c.put_rows-5.ensures

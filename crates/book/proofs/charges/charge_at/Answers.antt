@@ -1,7 +1,6 @@
 -- `book::charges::charge_at` meets its contract. Assumes nothing.
-use Rattle.book.specs.Reading.{amount_read}
 use Rattle.book.specs.Views.{charge_view}
 use Rattle.book.proofs.charges.charge_at.Goals as goal
 
 pub returns : goal.returns
-returns c = charge_view _ _ _ c.requires (amount_read _ _ _ _ c.word.ensures c.from_bits.ensures)
+returns c = charge_view _ _ _ c.requires c.row_at.ensures

@@ -3,4 +3,4 @@ use Rattle.book.specs.Views.{codes_view}
 use Rattle.book.proofs.codes.codes_of.Goals as goal
 
 pub returns : goal.returns
-returns c = codes_view _ _ c.codes_at.ensures
+returns c = codes_view _ _ c.rows_at.ensures

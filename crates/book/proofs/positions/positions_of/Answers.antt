@@ -3,4 +3,4 @@ use Rattle.book.specs.Views.{positions_view}
 use Rattle.book.proofs.positions.positions_of.Goals as goal
 
 pub returns : goal.returns
-returns c = positions_view _ _ c.positions_at.ensures
+returns c = positions_view _ _ c.rows_at.ensures

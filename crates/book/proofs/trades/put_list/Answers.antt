@@ -7,4 +7,4 @@ use Rattle.book.proofs.trades.put_list.Goals as goal
 pub returns : goal.returns
 returns c =
     let long : length c.args.t ≡ 256 = search (rules, unmapped) in
-    list_changed _ _ _ _ _ (record { byte = c.fits-b }) c.told-b long c.put.ensures c.put_trades.ensures
+    list_changed _ _ _ _ _ (record { byte = c.fits-b }) c.told-b long c.put.ensures c.put_rows.ensures
