@@ -1,5 +1,6 @@
 // A line is written into a lent buffer and the written part is handed back (document 01, "Call file and sheet").
 ghost use Rattle.std.specs.Prelude.{◌≡◌, length};
+ghost use Rattle.rules.specs.Refusals.{answered, value_or};
 ghost use Rattle.rules.specs.Sheet.{line_answer, line_part, line_spot, line_bytes, line_tally};
 
 use crate::counting::count_line;

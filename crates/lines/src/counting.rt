@@ -1,6 +1,7 @@
 // The tally of lines and bytes (document 01: "moved on by every line; neither passes 1,000,000, and a line that would take one
 // past it is refused by 18"), by value.
 ghost use Rattle.std.specs.Prelude.{◌≡◌, ◌≤◌};
+ghost use Rattle.rules.specs.Refusals.{answered, value_or};
 ghost use Rattle.rules.specs.Sheet.{line_answer, line_tally};
 ghost use Rattle.lines.specs.Counting.{passes};
 

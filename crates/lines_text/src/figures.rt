@@ -35,11 +35,9 @@ pub fn fields_width(figures: [Figure; 5], count: usize) -> usize
     requires { count ≤ 5 }
     ensures { (result ≡ length (fields count figures)) × (result ≤ 22 * count) }
 {
-    let mut size: usize = 0;
-    let mut i: usize = 0;
-    while i < count {
+    let mut size = 0;
+    for i in 0..count {
         size += field_width(figures[i]);
-        i += 1;
     }
     size
 }
@@ -50,10 +48,8 @@ pub fn put_fields(buffer: &mut [u8], at: usize, figures: [Figure; 5], count: usi
     ensures { (result ≡ at + length (fields count figures)) × (buffer.new ≡ stored buffer.old at (fields count figures)) }
 {
     let mut place = at;
-    let mut i: usize = 0;
-    while i < count {
+    for i in 0..count {
         place = put_field(buffer, place, figures[i]);
-        i += 1;
     }
     place
 }

@@ -20,7 +20,7 @@ use Rattle.sheet_laws.specs.AnswersFit.{file_fits}
 use Rattle.sheet_laws.specs.BookLeft.{is_there}
 use Rattle.sheet_laws.proofs.Bounded.{sheet_bytes_lem}
 use Rattle.sheet.specs.Answers.{code, length-code, answersIn, placeFits, places-fit, answers-back}
-use Rattle.sheet.specs.Whole.{book_if, lines_above, sheet_lines, sheet_text, Printable}
+use Rattle.sheet.specs.Whole.{lines_above, sheet_lines, sheet_text, Printable}
 
 -- ── the bytes of the answers are read back ──
 
@@ -107,22 +107,22 @@ exists_is file rest =
     let c = contents_of file in
     ap (λ (bs : List ℕ). eqb (field 1 0 (bs ++ rest)) 0) (bytes_are file) ∙ first_answer c.codes c.calls c.place rest (begun_file file)
 
--- the book that the sheet is of, if k is that of the file where there is one
-pub book_is : (exists : Bool) (k : Book) (b : Option Book) → exists ≡ is_there b → ((m : Book) → b ≡ Some m → k ≡ m) → book_if exists k ≡ b
-unfolding book_if is_there
+-- the book that is read back where there is one
+pub book_is : (exists : Bool) (k : Book) (b : Option Book) → exists ≡ is_there b → ((m : Book) → b ≡ Some m → k ≡ m) → cond exists (Some k) None ≡ b
+unfolding is_there
 book_is exists k None e h = cond_no (Some k) None e
 book_is exists k (Some m) e h = cond_yes (Some k) None e ∙ ap Some (h m refl)
 
 -- ── the sheet of the file ──
 
-module _ (file rest : List ℕ) (count : ℕ) (exists : Bool) (k : Book) (short : too_long file ≡ false) (n : count ≡ length (file_of file).answers) where
-  pub sheet_is_file : book_if exists k ≡ (file_of file).book → sheet_text count (answers_of file ++ rest) exists k ≡ sheet_of file
+module _ (file rest : List ℕ) (count : ℕ) (book : Option Book) (short : too_long file ≡ false) (n : count ≡ length (file_of file).answers) where
+  pub sheet_is_file : book ≡ (file_of file).book → sheet_text count (answers_of file ++ rest) book ≡ sheet_of file
   unfolding sheet_text sheet_lines lines_above sheet_of lines_of
   sheet_is_file e =
       ap₂ (λ (l : List Answer) (b : Option Book). each text_of (ended (answer_lines 0 l ++ book_lines b))) (answers_are file rest count short n) e
       ∙ ap (each text_of) (sym (cond_no refused_sheet (lines_of (file_of file)) short))
 
-  pub printable_file : Bytes file → book_if exists k ≡ (file_of file).book → (exists ≡ true → k.records ≤ most_records) → Printable count (answers_of file ++ rest) exists k
+  pub printable_file : Bytes file → book ≡ (file_of file).book → ((k : Book) → book ≡ Some k → k.records ≤ most_records) → Printable count (answers_of file ++ rest) book
   printable_file bytes e few =
       record {
         within = omega (arith, length-append (answers_of file) rest, length_bytes file);

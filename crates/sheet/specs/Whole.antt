@@ -18,27 +18,24 @@ use Rattle.sheet.specs.BookLines.{entry_lines, charges_are}
 
 -- ── definitions ──
 
-unfoldable pub book_if : Bool → Book → Option Book
-book_if exists k = cond exists (Some k) None
-
 -- the lines above the last
-unfoldable pub lines_above : ℕ → List ℕ → Bool → Book → List Line
-lines_above count answers exists k = answer_lines 0 (answersIn count answers) ++ book_lines (book_if exists k)
+unfoldable pub lines_above : ℕ → List ℕ → Option Book → List Line
+lines_above count answers book = answer_lines 0 (answersIn count answers) ++ book_lines book
 
-unfoldable pub sheet_lines : ℕ → List ℕ → Bool → Book → List Line
-sheet_lines count answers exists k = ended (lines_above count answers exists k)
+unfoldable pub sheet_lines : ℕ → List ℕ → Option Book → List Line
+sheet_lines count answers book = ended (lines_above count answers book)
 
-unfoldable pub sheet_text : ℕ → List ℕ → Bool → Book → List ℕ
-sheet_text count answers exists k = each text_of (sheet_lines count answers exists k)
+unfoldable pub sheet_text : ℕ → List ℕ → Option Book → List ℕ
+sheet_text count answers book = each text_of (sheet_lines count answers book)
 
 -- A file of 65,535 bytes has at most 21,846 answers (65,534 bytes behind the version, at least 3 a record); a 19's place is in the file.
--- Where no book exists, k is anything. The sheet is shorter than the tally's bound.
-pub record Printable (count : ℕ) (answers : List ℕ) (exists : Bool) (k : Book) : Type 0 where
+-- The sheet is shorter than the tally's bound.
+pub record Printable (count : ℕ) (answers : List ℕ) (book : Option Book) : Type 0 where
   pub within : count * 9 ≤ length answers
   pub few : count ≤ 21_846
   pub places : all placeFits (answersIn count answers) ≡ true
-  pub records : exists ≡ true → k.records ≤ most_records
-  pub short : length (sheet_text count answers exists k) ≤ most_tally
+  pub records : (k : Book) → book ≡ Some k → k.records ≤ most_records
+  pub short : length (sheet_text count answers book) ≤ most_tally
 
 -- ── the book's lines ──
 
@@ -46,54 +43,49 @@ pub book_lines_lem : (k : Book) → book_lines (Some k) ≡ (Day k.day ∷ []) +
 unfolding book_lines open_of
 book_lines_lem k = ap (λ (l : List Line). Day k.day ∷ (map open_line (open_of k) ++ l)) (charges_are k)
 
-pub book_yes : (exists : Bool) (k : Book) → exists ≡ true → book_lines (Some k) ≡ book_lines (book_if exists k)
-unfolding book_if
-book_yes exists k e = ap (λ (b : Bool). book_lines (cond b (Some k) None)) (sym e)
+pub no_book : book_lines None ≡ []
+unfolding book_lines
+no_book = refl
 
-pub book_no : (exists : Bool) (k : Book) → exists ≡ false → [] ≡ book_lines (book_if exists k)
-unfolding book_if book_lines
-book_no exists k e = ap (λ (b : Bool). book_lines (cond b (Some k) None)) (sym e)
-
-few_book : (exists : Bool) (k : Book) → (exists ≡ true → k.records ≤ most_records) → length (book_lines (book_if exists k)) ≤ 1_281
-unfolding book_if
-few_book true k r = few_book_lines k (r refl)
-few_book false k r = omega (arith, ap length (book_no false k refl))
+few_book : (book : Option Book) → ((k : Book) → book ≡ Some k → k.records ≤ most_records) → length (book_lines book) ≤ 1_281
+few_book (Some k) r = few_book_lines k (r k refl)
+few_book None r = omega (arith, ap length no_book)
 
 -- ── the whole ──
 
-sheet_is : (count : ℕ) (answers : List ℕ) (exists : Bool) (k : Book)
-    → sheet_lines count answers exists k ≡ lines_above count answers exists k ++ (End (length (lines_above count answers exists k)) ∷ [])
+sheet_is : (count : ℕ) (answers : List ℕ) (book : Option Book)
+    → sheet_lines count answers book ≡ lines_above count answers book ++ (End (length (lines_above count answers book)) ∷ [])
 unfolding sheet_lines ended
-sheet_is count answers exists k = refl
+sheet_is count answers book = refl
 
-above_is : (count : ℕ) (answers : List ℕ) (exists : Bool) (k : Book)
-    → lines_above count answers exists k ≡ answer_lines 0 (answersIn count answers) ++ book_lines (book_if exists k)
+above_is : (count : ℕ) (answers : List ℕ) (book : Option Book)
+    → lines_above count answers book ≡ answer_lines 0 (answersIn count answers) ++ book_lines book
 unfolding lines_above
-above_is count answers exists k = refl
+above_is count answers book = refl
 
 -- its three parts, where n lines are above the last
-pub sheet_parts : (count : ℕ) (answers : List ℕ) (exists : Bool) (k : Book) (n : ℕ) → n ≡ length (lines_above count answers exists k)
-    → sheet_lines count answers exists k ≡ answer_lines 0 (answersIn count answers) ++ (book_lines (book_if exists k) ++ (End n ∷ []))
-sheet_parts count answers exists k n e =
-    sheet_is count answers exists k
-    ∙ ap₂ (λ (l : List Line) (m : ℕ). l ++ (End m ∷ [])) (above_is count answers exists k) (sym e)
-    ∙ append_assoc (answer_lines 0 (answersIn count answers)) (book_lines (book_if exists k)) (End n ∷ [])
+pub sheet_parts : (count : ℕ) (answers : List ℕ) (book : Option Book) (n : ℕ) → n ≡ length (lines_above count answers book)
+    → sheet_lines count answers book ≡ answer_lines 0 (answersIn count answers) ++ (book_lines book ++ (End n ∷ []))
+sheet_parts count answers book n e =
+    sheet_is count answers book
+    ∙ ap₂ (λ (l : List Line) (m : ℕ). l ++ (End m ∷ [])) (above_is count answers book) (sym e)
+    ∙ append_assoc (answer_lines 0 (answersIn count answers)) (book_lines book) (End n ∷ [])
 
 -- the last line does not count itself
-pub lines_above_lem : (w : Bool) (count : ℕ) (answers : List ℕ) (exists : Bool) (k : Book) (bs cs ds : List ℕ) (s t : Tally)
-    → Wrote w bs start (answer_lines 0 (answersIn count answers)) cs s → Wrote w cs s (book_lines (book_if exists k)) ds t
-    → t.lines ≡ length (lines_above count answers exists k)
-lines_above_lem w count answers exists k bs cs ds s t one two =
+pub lines_above_lem : (w : Bool) (count : ℕ) (answers : List ℕ) (book : Option Book) (bs cs ds : List ℕ) (s t : Tally)
+    → Wrote w bs start (answer_lines 0 (answersIn count answers)) cs s → Wrote w cs s (book_lines book) ds t
+    → t.lines ≡ length (lines_above count answers book)
+lines_above_lem w count answers book bs cs ds s t one two =
     let xs = answer_lines 0 (answersIn count answers) in
-    let ys = book_lines (book_if exists k) in
-    omega (arith, lines_of s start xs one.reach, lines_of t s ys two.reach, ap length (above_is count answers exists k), length-append xs ys)
+    let ys = book_lines book in
+    omega (arith, lines_of s start xs one.reach, lines_of t s ys two.reach, ap length (above_is count answers book), length-append xs ys)
 
-pub ready_sheet : (w : Bool) (n count : ℕ) (answers : List ℕ) (exists : Bool) (k : Book) → Printable count answers exists k
-    → (w ≡ true → length (sheet_text count answers exists k) ≤ n) → Ready w n start (sheet_lines count answers exists k)
+pub ready_sheet : (w : Bool) (n count : ℕ) (answers : List ℕ) (book : Option Book) → Printable count answers book
+    → (w ≡ true → length (sheet_text count answers book) ≤ n) → Ready w n start (sheet_lines count answers book)
 unfolding sheet_text
-ready_sheet w n count answers exists k h fits =
-    let above = lines_above count answers exists k in
-    let e = sheet_is count answers exists k in
+ready_sheet w n count answers book h fits =
+    let above = lines_above count answers book in
+    let e = sheet_is count answers book in
     record {
       fits = λ t. let f = fits t in omega arith;
       short = omega (arith, h.short);
@@ -102,26 +94,26 @@ ready_sheet w n count answers exists k h fits =
             arith,
             ap length e,
             length-append above (End (length above) ∷ []),
-            ap length (above_is count answers exists k),
-            length-append (answer_lines 0 (answersIn count answers)) (book_lines (book_if exists k)),
+            ap length (above_is count answers book),
+            length-append (answer_lines 0 (answersIn count answers)) (book_lines book),
             few-lines count answers,
-            few_book exists k h.records,
+            few_book book h.records,
             h.few,
           );
     }
 
 -- ── what the two public functions make of it ──
 
-pub width_is : (w : Bool) (count : ℕ) (answers : List ℕ) (exists : Bool) (k : Book) (bs cs : List ℕ) (r : Tally)
-    → Wrote w bs start (sheet_lines count answers exists k) cs r → r.bytes ≡ length (sheet_text count answers exists k)
+pub width_is : (w : Bool) (count : ℕ) (answers : List ℕ) (book : Option Book) (bs cs : List ℕ) (r : Tally)
+    → Wrote w bs start (sheet_lines count answers book) cs r → r.bytes ≡ length (sheet_text count answers book)
 unfolding sheet_text
-width_is w count answers exists k bs cs r h = let e = bytes_of_lem r start (sheet_lines count answers exists k) h.reach in omega arith
+width_is w count answers book bs cs r h = let e = bytes_of_lem r start (sheet_lines count answers book) h.reach in omega arith
 
 pub front_is : (bs cs xs : List ℕ) → length xs ≤ length bs → cs ≡ stored bs 0 xs → cs ≡ xs ++ drop (length xs) bs
 front_is bs cs xs h e = e ∙ stored_eq bs 0 xs (omega arith) ∙ ap (λ (n : ℕ). xs ++ drop n bs) (zero-add (length xs))
 
-pub bytes_are : (count : ℕ) (answers : List ℕ) (exists : Bool) (k : Book) (bs cs : List ℕ) (r : Tally)
-    → length (sheet_text count answers exists k) ≤ length bs → Wrote true bs start (sheet_lines count answers exists k) cs r
-    → cs ≡ sheet_text count answers exists k ++ drop (length (sheet_text count answers exists k)) bs
+pub bytes_are : (count : ℕ) (answers : List ℕ) (book : Option Book) (bs cs : List ℕ) (r : Tally)
+    → length (sheet_text count answers book) ≤ length bs → Wrote true bs start (sheet_lines count answers book) cs r
+    → cs ≡ sheet_text count answers book ++ drop (length (sheet_text count answers book)) bs
 unfolding sheet_text put_if
-bytes_are count answers exists k bs cs r h w = front_is bs cs (texts_of (sheet_lines count answers exists k)) h w.bytes
+bytes_are count answers book bs cs r h w = front_is bs cs (texts_of (sheet_lines count answers book)) h w.bytes

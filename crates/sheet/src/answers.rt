@@ -43,13 +43,10 @@ pub(crate) fn put_answers(
     ensures { Wrote write buffer.old t (answer_lines 0 (answersIn count answers.now)) buffer.new result }
 {
     let mut tally = t;
-    let mut i: usize = 0;
-    while i < count {
-        let next = i + 1;
+    for i in 0..count {
         let number = get(answers, i * 9, 1) as u8;
         let figure = get(answers, i * 9 + 1, 8);
         tally = put_answer(buffer, write, tally, i as u32, number, figure);
-        i = next;
     }
     tally
 }

@@ -32,11 +32,9 @@ pub(crate) fn put_charges(buffer: &mut [u8], write: bool, t: Tally, charges: [Mi
     ensures { Wrote write buffer.old t (entry_lines charges) buffer.new result }
 {
     let mut tally = t;
-    let mut i: usize = 0;
-    while i < 256 {
-        let charge = charges[i];
-        tally = put_charge(buffer, write, tally, (i / 4) as u8, (i % 4) as u8, charge);
-        i += 1;
+    for i in 0..256 {
+        let (account, currency) = ((i / 4) as u8, (i % 4) as u8);
+        tally = put_charge(buffer, write, tally, account, currency, charges[i]);
     }
     tally
 }

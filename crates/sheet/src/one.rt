@@ -6,6 +6,8 @@ ghost use Rattle.sheet.specs.Written.{Ready, Wrote};
 use lines::{count_line, put_counted};
 use rules::{Line, Tally};
 
+// (`write` goes by value beside the buffer: a trait with a writer and a counter would ask a type parameter of each function here, and
+// a ghost member of each contract, where the flag is one word.)
 // The tally with the line. No sheet comes near the tally's bounds, so that no line is refused.
 pub(crate) fn put_one(buffer: &mut [u8], write: bool, t: Tally, l: Line) -> Tally
     requires { Ready write (length buffer.old) t (l ∷ []) }

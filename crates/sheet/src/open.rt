@@ -32,11 +32,8 @@ pub(crate) fn put_open(
     ensures { Wrote write buffer.old t (map open_line (take records positions)) buffer.new result }
 {
     let mut tally = t;
-    let mut i: usize = 0;
-    while i < records {
-        let p = positions[i];
-        tally = put_one(buffer, write, tally, open_line(p));
-        i += 1;
+    for i in 0..records {
+        tally = put_one(buffer, write, tally, open_line(positions[i]));
     }
     tally
 }

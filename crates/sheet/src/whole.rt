@@ -1,10 +1,9 @@
 // The sheet (document 01, "Call file and sheet"): the answers' lines; if a book exists, DAY, P, C; last E and the lines above it.
 ghost use Rattle.std.specs.Prelude.{◌≡◌, true, ◌++◌, ◌≤◌, length, drop};
-ghost use Rattle.std.proofs.Math.Option.{some};
 ghost use Rattle.rules.specs.Bounds.{most_records};
 ghost use Rattle.rules.specs.Sheet.{book_lines};
 ghost use Rattle.sheet.specs.Written.{Ready, Wrote, start};
-ghost use Rattle.sheet.specs.Whole.{Printable, book_if, sheet_lines, sheet_text};
+ghost use Rattle.sheet.specs.Whole.{Printable, sheet_lines, sheet_text};
 
 use crate::answers::put_answers;
 use crate::charges::put_charges;
@@ -14,8 +13,8 @@ use rules::{Book, Line, Tally};
 
 // DAY, P, C.
 fn put_book(buffer: &mut [u8], write: bool, t: Tally, k: Book) -> Tally
-    requires { (k.records ≤ most_records) × Ready write (length buffer.old) t (book_lines (some k)) }
-    ensures { Wrote write buffer.old t (book_lines (some k)) buffer.new result }
+    requires { (k.records ≤ most_records) × Ready write (length buffer.old) t (book_lines (Some k)) }
+    ensures { Wrote write buffer.old t (book_lines (Some k)) buffer.new result }
 {
     let day = put_one(buffer, write, t, Line::Day(k.day));
     let positions = k.positions;
@@ -25,15 +24,15 @@ fn put_book(buffer: &mut [u8], write: bool, t: Tally, k: Book) -> Tally
     put_charges(buffer, write, open, charges)
 }
 
-// The lines of the book, if it exists.
-fn put_existing(buffer: &mut [u8], write: bool, t: Tally, exists: bool, k: Book) -> Tally
-    requires { (exists ≡ true → k.records ≤ most_records) × Ready write (length buffer.old) t (book_lines (book_if exists k)) }
-    ensures { Wrote write buffer.old t (book_lines (book_if exists k)) buffer.new result }
+// The lines of the book, if there is one.
+fn put_existing(buffer: &mut [u8], write: bool, t: Tally, book: Option<Book>) -> Tally
+    requires { ((k : Book) → book ≡ Some k → k.records ≤ most_records) × Ready write (length buffer.old) t (book_lines book) }
+    ensures { Wrote write buffer.old t (book_lines book) buffer.new result }
 {
-    if !exists {
-        return t;
+    match book {
+        Some(k) => put_book(buffer, write, t, k),
+        None => t,
     }
-    put_book(buffer, write, t, k)
 }
 
 // All lines: written, or only measured.
@@ -42,34 +41,33 @@ fn put_lines(
     write: bool,
     answers: &[u8],
     count: usize,
-    exists: bool,
-    k: Book,
+    book: Option<Book>,
 ) -> Tally
-    requires { Printable count answers.now exists k × (write ≡ true → length (sheet_text count answers.now exists k) ≤ length buffer.old) }
-    ensures { Wrote write buffer.old start (sheet_lines count answers.now exists k) buffer.new result }
+    requires { Printable count answers.now book × (write ≡ true → length (sheet_text count answers.now book) ≤ length buffer.old) }
+    ensures { Wrote write buffer.old start (sheet_lines count answers.now book) buffer.new result }
 {
     let begin = Tally { lines: 0, bytes: 0 };
     let answered = put_answers(buffer, write, begin, answers, count);
-    let above = put_existing(buffer, write, answered, exists, k);
+    let above = put_existing(buffer, write, answered, book);
     put_one(buffer, write, above, Line::End(above.lines))
 }
 
 // How long the sheet is.
-pub fn sheet_width(answers: &[u8], count: usize, exists: bool, k: Book) -> usize
-    requires { Printable count answers.now exists k }
-    ensures { result ≡ length (sheet_text count answers.now exists k) }
+pub fn sheet_width(answers: &[u8], count: usize, book: Option<Book>) -> usize
+    requires { Printable count answers.now book }
+    ensures { result ≡ length (sheet_text count answers.now book) }
 {
     let mut none: [u8; 1] = [0];
-    let tally = put_lines(&mut none, false, answers, count, exists, k);
+    let tally = put_lines(&mut none, false, answers, count, book);
     tally.bytes as usize
 }
 
 // The sheet in front of the buffer, where it fits; bytes beyond it stay.
-pub fn put_sheet(answers: &[u8], count: usize, exists: bool, k: Book, buffer: &mut [u8]) -> usize
-    requires { Printable count answers.now exists k × (length (sheet_text count answers.now exists k) ≤ length buffer.old) }
-    ensures { (result ≡ length (sheet_text count answers.now exists k))
-        × (buffer.new ≡ sheet_text count answers.now exists k ++ drop (length (sheet_text count answers.now exists k)) buffer.old) }
+pub fn put_sheet(answers: &[u8], count: usize, book: Option<Book>, buffer: &mut [u8]) -> usize
+    requires { Printable count answers.now book × (length (sheet_text count answers.now book) ≤ length buffer.old) }
+    ensures { (result ≡ length (sheet_text count answers.now book))
+        × (buffer.new ≡ sheet_text count answers.now book ++ drop (length (sheet_text count answers.now book)) buffer.old) }
 {
-    let tally = put_lines(buffer, true, answers, count, exists, k);
+    let tally = put_lines(buffer, true, answers, count, book);
     tally.bytes as usize
 }

@@ -18,12 +18,15 @@ use playing_records::count_answers;
 use rules::{Book, Refusal};
 use sheet::{put_refused, put_sheet, refused_width, sheet_width};
 
-fn store_if(exists: bool, k: Book, book: &mut BookBytes)
-    ensures { book.new ≡ cond exists (bytes_of k) book.old }
+// The book that a file has left in a room: none where its first answer, which is that of the create, is a refusal.
+fn book_in(room: &BookBytes, answers: &[u8]) -> Option<Book>
+    requires { 1 ≤ length answers.now }
+    ensures { result ≡ book_in answers.now room.now }
 {
-    if exists {
-        store(k, book);
+    if get(answers, 0, 1) != 0 {
+        return None;
     }
+    Some(load(room))
 }
 
 // "A file refused by 18 gives R 0 18 and E 1."
@@ -36,8 +39,7 @@ fn refused_sheet(buffer: &mut [u8]) -> Result<usize, Refusal>
     Ok(put_refused(buffer))
 }
 
-// The sheet of a file, from what it has left in a room and among the answers: the first answer is that of the create,
-// and says whether a book exists.
+// The sheet of a file, from what it has left in a room and among the answers.
 fn put_played(
     room: &BookBytes,
     answers: &[u8],
@@ -48,14 +50,15 @@ fn put_played(
     requires { (length file.now ≤ most_file) × Room file.now room.now answers.now }
     ensures { Written file.now book.old buffer.old (answered result) (value_or 0 result) book.new buffer.new }
 {
-    let exists = get(answers, 0, 1) == 0;
     let count = count_answers(file);
-    let k = load(room);
-    if buffer.len() < sheet_width(answers, count, exists, k) {
+    let left = book_in(room, answers);
+    if buffer.len() < sheet_width(answers, count, left) {
         return Err(Refusal::Length);
     }
-    let size = put_sheet(answers, count, exists, k, buffer);
-    store_if(exists, k, book);
+    let size = put_sheet(answers, count, left, buffer);
+    if let Some(k) = left {
+        store(k, book);
+    }
     Ok(size)
 }
 

@@ -1,19 +1,20 @@
 -- `lines::calls::put_counted` meets its contract: a refused line alters nothing, any other stands at the front. Assumes nothing.
-use Rattle.std.proofs.Common.{◌∙◌, length, arith}
+use Rattle.std.proofs.Common.{rules, ◌∙◌, length, arith, sym}
+use Rattle.laws.specs.RefusalNumbers.{some_number}
 use Rattle.lines.specs.Counting.{answer_fits, bytes_yes, bytes_no}
 use Rattle.lines.proofs.calls.put_counted.Goals as goal
 
-pub returns-then-c-ne0 : goal.returns-then-c-ne0
-returns-then-c-ne0 c =
+pub returns-in_err-next : goal.returns-in_err-next
+returns-in_err-next c =
     let a = c.args in
-    let e = c.count_line-c.ensures in
-    (e.0, e.1, bytes_no a.buffer.now a.l a.tally (λ z. c.if-c-ne0.true (e.0 ∙ z)))
+    let e = c.in_err-next.ensures in
+    (search rules, search rules, bytes_no a.buffer.now a.l a.tally (λ z. omega (arith, some_number c.in_err-next.field-0.0, e.0, z)))
 
 pub put_line-requires : goal.put_line-requires
-put_line-requires c = omega (arith, answer_fits (length c.args.buffer.now) c.args.l c.args.tally (omega arith))
+put_line-requires c = omega (arith, answer_fits (length c.args.buffer.now) c.args.l c.args.tally (sym c.in_ok-next.ensures.0))
 
 pub returns : goal.returns
 returns c =
     let a = c.args in
-    let e = c.count_line-c.ensures in
-    (e.0, e.1, c.put_line.ensures.1 ∙ bytes_yes a.buffer.now a.l a.tally (omega arith))
+    let e = c.in_ok-next.ensures in
+    (e.0, e.1, c.put_line.ensures.1 ∙ bytes_yes a.buffer.now a.l a.tally (sym e.0))

@@ -16,12 +16,12 @@ returns-then-not-passes c =
     let refused = answer_no _ _ _ (judged _ _ c.args.l _ _ _ c.line_width-size.ensures.0 c.passes.ensures c.if-not-passes.true) in
     (sym refused, sym (tally_no _ _ _ (λ z. omega arith)))
 
-pub overflow_add-lines : goal.overflow_add-lines
-overflow_add-lines c =
+pub overflow_add-result : goal.overflow_add-result
+overflow_add-result c =
     let b = passes_below _ _ _ (judged _ _ c.args.l _ _ _ c.line_width-size.ensures.0 c.passes.ensures c.if-not-passes.false) in omega arith
 
-pub overflow_add-bytes : goal.overflow_add-bytes
-overflow_add-bytes c =
+pub overflow_add-result-2 : goal.overflow_add-result-2
+overflow_add-result-2 c =
     let b = passes_below _ _ _ (judged _ _ c.args.l _ _ _ c.line_width-size.ensures.0 c.passes.ensures c.if-not-passes.false) in
     omega (arith, c.line_width-size.ensures.0)
 

@@ -1,14 +1,9 @@
 -- `lines_text::figures::put_fields` meets its contract: a field behind those so far. Assumes nothing.
-use mathlib.Core.Path.{◌≡◌}
-use Prim.Native.Nat.{◌+◌, ◌-◌, ◌≤◌}
-use lib.ListN.{length}
+use Rattle.std.proofs.Common.{◌≡◌, ◌+◌, length}
 use Rattle.fields.specs.Field.{stored}
 use Rattle.lines_text.specs.LineWords.{fields}
 use Rattle.lines_text.proofs.figures.put_fields.Given as goal
 
 abbrev pub invariant-loop-i : goal.invariant-loop-i
 invariant-loop-i l =
-    (l.i ≤ l.count) × (l.place ≡ l.at + length (fields l.i l.figures)) × (length l.buffer ≡ length l.initial.buffer) × (l.buffer ≡ stored l.initial.buffer l.at (fields l.i l.figures))
-
-abbrev pub decreases-loop-i : goal.decreases-loop-i
-decreases-loop-i l = l.count - l.i
+    (l.place ≡ l.at + length (fields l.i l.figures)) × (length l.buffer ≡ length l.initial.buffer) × (l.buffer ≡ stored l.initial.buffer l.at (fields l.i l.figures))

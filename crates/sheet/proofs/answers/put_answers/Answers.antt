@@ -10,39 +10,15 @@ use Rattle.sheet.proofs.answers.put_answers.Goals as goal
 pub loop-i-init : goal.loop-i-init
 loop-i-init c =
     let first = left-first c.args.count c.args.answers.now in
-    (omega arith, refl, ap (all placeFits) (sym first) ∙ c.requires.2, going_start _ _ _ _ _ _ c.requires.3 (ap (answer_lines 0) first))
-
-pub overflow_add-next : goal.overflow_add-next
-overflow_add-next c = omega arith
-
-pub overflow_mul-i : goal.overflow_mul-i
-overflow_mul-i c = omega (arith, c.requires.1)
-
-pub get-number-requires : goal.get-number-requires
-get-number-requires c = omega (arith, c.requires.0)
-
-pub overflow_mul-i-in-loop-i : goal.overflow_mul-i-in-loop-i
-overflow_mul-i-in-loop-i c = omega (arith, c.requires.1)
-
-pub overflow_add-i : goal.overflow_add-i
-overflow_add-i c = omega (arith, c.requires.1)
-
-pub get-figure-requires : goal.get-figure-requires
-get-figure-requires c = omega (arith, c.requires.0)
-
-pub overflow_cast-i : goal.overflow_cast-i
-overflow_cast-i c = omega (arith, c.requires.1)
+    (refl, ap (all placeFits) (sym first) ∙ c.requires.2, going_start _ _ _ _ _ _ c.requires.3 (ap (answer_lines 0) first))
 
 pub put_answer-tally-requires : goal.put_answer-tally-requires
 put_answer-tally-requires c =
     let l = c.loop-i in
     let h = c.loop-i-test.true in
     let is = ap₂ answer c.get-number.ensures.0 c.get-figure.ensures.0 in
-    let now = fits_more c.args.count c.args.answers.now l.i h l.invariant.2 in
-    (going_ready _ _ _ _ _ _ _ _ _ _ _ l.invariant.1 c.requires.3 l.invariant.3 (left-more _ _ _ _ h is), ap placeFits is ∙ now.0)
-
-pub loop-i-smaller : goal.loop-i-smaller
-loop-i-smaller c = omega arith
+    let now = fits_more c.args.count c.args.answers.now l.i h l.invariant.1 in
+    (going_ready _ _ _ _ _ _ _ _ _ _ _ l.invariant.0 c.requires.3 l.invariant.2 (left-more _ _ _ _ h is), ap placeFits is ∙ now.0)
 
 pub loop-i-preserved : goal.loop-i-preserved
 loop-i-preserved c =
@@ -50,13 +26,12 @@ loop-i-preserved c =
     let h = c.loop-i-test.true in
     let is = ap₂ answer c.get-number.ensures.0 c.get-figure.ensures.0 in
     let put = c.put_answer-tally in (
-      omega arith,
-      put.auto.buffer ∙ l.invariant.1,
-      (fits_more c.args.count c.args.answers.now l.i h l.invariant.2).1,
-      going_next _ _ _ _ _ _ _ _ _ _ _ l.invariant.3 (left-more _ _ _ _ h is) put.ensures,
+      put.auto.buffer ∙ l.invariant.0,
+      (fits_more c.args.count c.args.answers.now l.i h l.invariant.1).1,
+      going_next _ _ _ _ _ _ _ _ _ _ _ l.invariant.2 (left-more _ _ _ _ h is) put.ensures,
     )
 
 pub returns : goal.returns
 returns c =
     let l = c.loop-i in
-    going_done _ _ _ _ _ _ _ l.invariant.3 (left-done _ _ l.i (omega arith))
+    going_done _ _ _ _ _ _ _ l.invariant.2 (left-done _ _ l.i (omega arith))

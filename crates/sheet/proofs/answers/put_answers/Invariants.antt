@@ -11,8 +11,5 @@ use Rattle.sheet.proofs.answers.put_answers.Given as goal
 
 abbrev pub invariant-loop-i : goal.invariant-loop-i
 invariant-loop-i l =
-    (l.i ≤ l.count) × (length l.buffer ≡ length l.initial.buffer) × (all placeFits (answers_left l.count l.answers l.i) ≡ true)
+    (length l.buffer ≡ length l.initial.buffer) × (all placeFits (answers_left l.count l.answers l.i) ≡ true)
     × Going l.write l.initial.buffer l.initial.tally (answer_lines 0 (answersIn l.count l.answers)) l.buffer l.tally (linesLeft l.count l.answers l.i)
-
-abbrev pub decreases-loop-i : goal.decreases-loop-i
-decreases-loop-i l = l.count - l.i

@@ -6,40 +6,22 @@ use Rattle.sheet.specs.BookLines.{charges_first, charges_more, charges_done}
 use Rattle.sheet.proofs.charges.put_charges.Goals as goal
 
 pub loop-i-init : goal.loop-i-init
-loop-i-init c = (omega arith, refl, going_start _ _ _ _ _ _ c.requires (charges_first _))
-
-pub offset_bounds-charges-i : goal.offset_bounds-charges-i
-offset_bounds-charges-i c = omega arith
-
-pub bounds-charges-i : goal.bounds-charges-i
-bounds-charges-i c = omega arith
-
-pub overflow_cast-i : goal.overflow_cast-i
-overflow_cast-i c = omega arith
-
-pub overflow_cast-i-in-loop-i : goal.overflow_cast-i-in-loop-i
-overflow_cast-i-in-loop-i c = omega arith
+loop-i-init c = (refl, going_start _ _ _ _ _ _ c.requires (charges_first _))
 
 pub put_charge-tally-requires : goal.put_charge-tally-requires
 put_charge-tally-requires c =
     let l = c.loop-i in
     let h = c.loop-i-test.true in
-    going_ready _ _ _ _ _ _ _ _ _ _ _ l.invariant.1 c.requires l.invariant.2 (charges_more c.args.charges l.i h)
-
-pub overflow_add-i : goal.overflow_add-i
-overflow_add-i c = omega arith
-
-pub loop-i-smaller : goal.loop-i-smaller
-loop-i-smaller c = omega arith
+    going_ready _ _ _ _ _ _ _ _ _ _ _ l.invariant.0 c.requires l.invariant.1 (charges_more c.args.charges l.i h)
 
 pub loop-i-preserved : goal.loop-i-preserved
 loop-i-preserved c =
     let l = c.loop-i in
     let h = c.loop-i-test.true in
     let put = c.put_charge-tally in
-    (omega arith, put.auto.buffer ∙ l.invariant.1, going_next _ _ _ _ _ _ _ _ _ _ _ l.invariant.2 (charges_more c.args.charges l.i h) put.ensures)
+    (put.auto.buffer ∙ l.invariant.0, going_next _ _ _ _ _ _ _ _ _ _ _ l.invariant.1 (charges_more c.args.charges l.i h) put.ensures)
 
 pub returns : goal.returns
 returns c =
     let l = c.loop-i in
-    going_done _ _ _ _ _ _ _ l.invariant.2 (charges_done c.args.charges l.i (omega arith))
+    going_done _ _ _ _ _ _ _ l.invariant.1 (charges_done c.args.charges l.i (omega arith))

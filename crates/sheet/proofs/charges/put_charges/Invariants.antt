@@ -8,7 +8,4 @@ use Rattle.sheet.proofs.charges.put_charges.Given as goal
 
 abbrev pub invariant-loop-i : goal.invariant-loop-i
 invariant-loop-i l =
-    (l.i ≤ 256) × (length l.buffer ≡ length l.initial.buffer) × Going l.write l.initial.buffer l.initial.tally (entry_lines l.charges) l.buffer l.tally (charges_left l.charges l.i)
-
-abbrev pub decreases-loop-i : goal.decreases-loop-i
-decreases-loop-i l = 256 - l.i
+    (length l.buffer ≡ length l.initial.buffer) × Going l.write l.initial.buffer l.initial.tally (entry_lines l.charges) l.buffer l.tally (charges_left l.charges l.i)

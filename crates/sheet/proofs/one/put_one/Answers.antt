@@ -1,6 +1,5 @@
 -- `sheet::one::put_one` meets its contract: the line written behind what the tally has counted, or only counted. Assumes nothing.
-use mathlib.Core.Path.{refl}
-use native.Mathlib.Omega.{arith}
+use Rattle.std.proofs.Common.{rules, refl, arith}
 use Rattle.sheet.specs.Written.{counted_one, written_one}
 use Rattle.sheet.proofs.one.put_one.Goals as goal
 
@@ -12,8 +11,8 @@ slice_bounds-put_counted-start c = omega (arith, c.requires.fits c.if-write.true
 
 pub returns-then-write : goal.returns-then-write
 returns-then-write c =
-    let e = c.put_counted-written.ensures in
-    written_one _ _ _ _ _ c.requires c.if-write.true refl _ _ e.1 e.2
+    let e = c.put_counted.ensures in
+    written_one _ _ _ _ _ c.requires c.if-write.true refl _ _ (search rules) e.2
 
 pub returns : goal.returns
-returns c = counted_one _ _ _ _ _ c.requires _ _ c.if-write.false (omega arith) c.count_line-counted.ensures.1
+returns c = counted_one _ _ _ _ _ c.requires 1_000_000 _ c.if-write.false (omega arith) (search rules)

@@ -10,27 +10,15 @@ use Rattle.sheet.specs.BookLines.{open_more, open_done}
 use Rattle.sheet.proofs.open.put_open.Goals as goal
 
 pub loop-i-init : goal.loop-i-init
-loop-i-init c = (omega arith, refl, going_start _ _ _ _ _ _ c.requires.1 refl)
-
-pub offset_bounds-positions-i : goal.offset_bounds-positions-i
-offset_bounds-positions-i c = omega (arith, c.requires.0)
-
-pub bounds-positions-i : goal.bounds-positions-i
-bounds-positions-i c = omega (arith, c.requires.0)
+loop-i-init c = (refl, going_start _ _ _ _ _ _ c.requires.1 refl)
 
 pub put_one-tally-requires : goal.put_one-tally-requires
 put_one-tally-requires c =
     let l = c.loop-i in
     let long : length c.args.positions ≡ 1024 = search (rules, unmapped) in
     let room : c.args.records ≤ length c.args.positions = omega (arith, c.requires.0) in
-    going_ready _ _ _ _ _ _ _ _ _ _ _ l.invariant.1 c.requires.1 l.invariant.2
+    going_ready _ _ _ _ _ _ _ _ _ _ _ l.invariant.0 c.requires.1 l.invariant.1
     (open_more c.args.positions c.args.records l.i _ room c.loop-i-test.true c.open_line.ensures)
-
-pub overflow_add-i : goal.overflow_add-i
-overflow_add-i c = omega (arith, c.requires.0)
-
-pub loop-i-smaller : goal.loop-i-smaller
-loop-i-smaller c = omega arith
 
 pub loop-i-preserved : goal.loop-i-preserved
 loop-i-preserved c =
@@ -38,9 +26,8 @@ loop-i-preserved c =
     let long : length c.args.positions ≡ 1024 = search (rules, unmapped) in
     let room : c.args.records ≤ length c.args.positions = omega (arith, c.requires.0) in
     let put = c.put_one-tally in (
-      omega arith,
-      put.auto.buffer ∙ l.invariant.1,
-      going_next _ _ _ _ _ _ _ _ _ _ _ l.invariant.2
+      put.auto.buffer ∙ l.invariant.0,
+      going_next _ _ _ _ _ _ _ _ _ _ _ l.invariant.1
           (open_more c.args.positions c.args.records l.i _ room c.loop-i-test.true
           c.open_line.ensures)
           put.ensures,
@@ -51,4 +38,4 @@ returns c =
     let l = c.loop-i in
     let long : length c.args.positions ≡ 1024 = search (rules, unmapped) in
     let room : c.args.records ≤ length c.args.positions = omega (arith, c.requires.0) in
-    going_done _ _ _ _ _ _ _ l.invariant.2 (open_done c.args.positions c.args.records l.i room (omega arith))
+    going_done _ _ _ _ _ _ _ l.invariant.1 (open_done c.args.positions c.args.records l.i room (omega arith))

@@ -10,8 +10,5 @@ use Rattle.sheet.proofs.open.put_open.Given as goal
 
 abbrev pub invariant-loop-i : goal.invariant-loop-i
 invariant-loop-i l =
-    (l.i ≤ l.records) × (length l.buffer ≡ length l.initial.buffer)
+    (length l.buffer ≡ length l.initial.buffer)
     × Going l.write l.initial.buffer l.initial.tally (map open_line (take l.records l.positions)) l.buffer l.tally (open_left l.positions l.records l.i)
-
-abbrev pub decreases-loop-i : goal.decreases-loop-i
-decreases-loop-i l = l.records - l.i
