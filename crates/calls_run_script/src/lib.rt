@@ -11,7 +11,7 @@ fn print_text(rt: &impl Print, text: &[u8]) -> io::Result<()> {
 
 pub fn print_answer(rt: &impl Print, n: u8) -> io::Result<()> {
     print_text(rt, b" ")?;
-    rt.print(n as u64)
+    rt.print(u64::from(n))
 }
 
 pub fn print_number(rt: &impl Print, n: Shares) -> io::Result<()> {
@@ -19,8 +19,7 @@ pub fn print_number(rt: &impl Print, n: Shares) -> io::Result<()> {
     if n.is_negative() {
         print_text(rt, b"-")?;
     }
-    let size = n.size();
-    rt.print(size.0)
+    rt.print(n.size().0)
 }
 
 // The fields of a command stand from byte 1 on, as in a call file.
@@ -46,38 +45,13 @@ pub fn write(command: &[u8; 16], book: &mut [u8]) {
     if book.len() < at + n {
         return;
     }
-    let mut i: usize = 0;
-    while i < n {
-        book[at + i] = command[4 + i];
-        i += 1;
-    }
+    book[at..at + n].copy_from_slice(&command[4..4 + n]);
 }
 
 pub fn copy(from: &[u8], to: &mut [u8]) {
-    let n = from.len();
-    if to.len() != n {
-        return;
+    if to.len() == from.len() {
+        to.copy_from_slice(from);
     }
-    let mut i: usize = 0;
-    while i < n {
-        to[i] = from[i];
-        i += 1;
-    }
-}
-
-fn same(a: &[u8], b: &[u8]) -> bool {
-    let n = a.len();
-    if b.len() != n {
-        return false;
-    }
-    let mut i: usize = 0;
-    while i < n {
-        if a[i] != b[i] {
-            return false;
-        }
-        i += 1;
-    }
-    true
 }
 
 // The number in some bytes of the book: place (2 bytes) and count (1); 8 bytes are a signed number.
@@ -155,12 +129,11 @@ pub fn say(rt: &impl Print, command: &[u8; 16]) -> io::Result<()> {
     if 14 < n {
         return Ok(());
     }
-    let whole = &command[..];
-    print_text(rt, &whole[2..2 + n])
+    print_text(rt, &command[2..2 + n])
 }
 
 pub fn say_whether_kept(rt: &impl Print, book: &[u8], copied: &[u8]) -> io::Result<()> {
-    if same(book, copied) {
+    if book == copied {
         print_text(rt, b" kept")?;
         return Ok(());
     }

@@ -7,12 +7,13 @@ ghost use Rattle.rules.specs.Sound.{sound};
 ghost use Rattle.rules.specs.Marks.{terms};
 ghost use Rattle.marking.specs.SoundMarks.{marks_sound};
 ghost use Rattle.marking_sums.specs.Converting.{Rates};
-ghost use Rattle.marking.specs.Answering.{is_past, number_in, due_with, answer_of};
+ghost use Rattle.rules.specs.Refusals.{numbered};
+ghost use Rattle.marking.specs.Answering.{due_with, answer_of};
 
 use crate::terms::terms_fit;
 use crate::unpriced::has_unpriced;
 use book::BookBytes;
-use marking_sums::{PerCurrency, favourable_total, sums_of, unfavourable_total};
+use marking_sums::{PerCurrency, Side, converted_total, sums_of};
 use rules::{Marks, Refusal};
 use units::{Amount, Mils};
 
@@ -20,19 +21,17 @@ use units::{Amount, Mils};
 fn excess(up: Amount, down: Amount) -> Amount
     ensures { result.0 ≡ down.0 - up.0 }
 {
-    if down.0 < up.0 {
-        return Amount(0);
-    }
-    Amount(down.0 - up.0)
+    Amount(down.0.saturating_sub(up.0))
 }
 
 fn due_of(t: PerCurrency, up: Amount, down: Amount) -> Marks
     requires { down.0 ≤ limit }
     ensures { result ≡ due_with t.sums up.0 down.0 }
 {
+    let sums = t.sums;
     Marks {
         due: Mils::of(false, excess(up, down)),
-        sums: t.sums,
+        sums,
     }
 }
 
@@ -41,8 +40,9 @@ fn answer_of(t: PerCurrency, rates: &[u32], haircuts: &[u32]) -> Result<Marks, R
     requires { Rates rates.now haircuts.now }
     ensures { numbered result ≡ answer_of t.sums rates.now haircuts.now }
 {
-    let up = favourable_total(t, rates, haircuts).ok_or(Refusal::TotalPastLimit)?;
-    let down = unfavourable_total(t, rates, haircuts).ok_or(Refusal::TotalPastLimit)?;
+    let past = Refusal::TotalPastLimit;
+    let up = converted_total(Side::Favourable, t, rates, haircuts).ok_or(past)?;
+    let down = converted_total(Side::Unfavourable, t, rates, haircuts).ok_or(past)?;
     Ok(due_of(t, Amount(up), Amount(down)))
 }
 

@@ -17,15 +17,9 @@ fn lacks_price(p: Position, intraday: &[u8], closing: &[u8]) -> bool
     requires { Tables intraday.now closing.now }
     ensures { result ≡ lacks_price (priced intraday.now closing.now) p }
 {
-    let q = p.quantity;
-    let zero = q.is_zero();
-    let s = security_of(p);
-    let price = price_of(intraday, closing, s);
-    let found = price.0;
-    if found != 0 {
-        return false;
-    }
-    !zero
+    let price = price_of(intraday, closing, security_of(p));
+    let wanted = !p.quantity.is_zero();
+    wanted && price.0 == 0
 }
 
 // The record is of the account, and lacks a price.
@@ -33,11 +27,7 @@ fn is_unpriced(p: Position, account: usize, intraday: &[u8], closing: &[u8]) -> 
     requires { Tables intraday.now closing.now }
     ensures { result ≡ (eqb (account_of p) account && lacks_price (priced intraday.now closing.now) p) }
 {
-    let own = account_of(p);
-    if own != account {
-        return false;
-    }
-    lacks_price(p, intraday, closing)
+    account_of(p) == account && lacks_price(p, intraday, closing)
 }
 
 // The account's records, each read where it stands.
@@ -46,13 +36,11 @@ pub fn has_unpriced(book: &BookBytes, account: usize, intraday: &[u8], closing: 
     ensures { result ≡ any (lacks_price (priced intraday.now closing.now)) (marked_of (book_of book.now) account) }
 {
     let n = records_at(book) as usize;
-    let mut i: usize = 0;
-    while i < n {
+    for i in 0..n {
         let p = position_at(book, i);
         if is_unpriced(p, account, intraday, closing) {
             return true;
         }
-        i += 1;
     }
     false
 }

@@ -7,6 +7,8 @@ use borrow.Author.Tests.{eq-eqb, ne_eqb, eqb-true, not-false, ltb-false}
 use Rattle.units.specs.Units.{top_price}
 use Rattle.rules.specs.Words.{above}
 use Rattle.rules.specs.Bounds.{last_security, every_security}
+use Rattle.rules.specs.Refusals.{number_of}
+use Rattle.rules.specs.declared.Refusal.{Refusal}
 use Rattle.rules.specs.Trades.{no_security}
 use Rattle.rules.specs.Prices.{entry_of, wrong_table, entry_above, from_closing, table_used, price_of, price_tests, price_answer, price_part, Spot, entry_spot, price_spot}
 use Rattle.laws.specs.Cases.{by_test, neither, cond_no}
@@ -17,6 +19,10 @@ use Rattle.marking_prices.specs.Looking.{fails_at}
 -- an entry above 9,999,999
 abbrev pub high_at : List ℕ → ℕ → Bool
 high_at table s = above top_price (entry_of table s)
+
+-- no refusal has the number 0
+pub number_some : (r : Refusal) → number_of r ≡ 0 → ⊥
+number_some r e = grind arith
 
 -- ── two tables of 32 entries ──
 

@@ -2,6 +2,7 @@
 // big-endian. Finding it is a public question whose answer is the 4-byte entry itself, as it stands in whichever table
 // it came from."
 ghost use Rattle.std.specs.Prelude.{◌≡◌, ◌||◌, ◌<◌, length};
+ghost use Rattle.rules.specs.Refusals.{answered};
 ghost use Rattle.rules.specs.Prices.{entry_of, wrong_table, entry_above, price_of, price_answer, price_part, price_spot};
 ghost use Rattle.marking_prices.specs.Pricing.{Tables};
 
@@ -21,12 +22,10 @@ fn entry_above(table: &[u8]) -> bool
     requires { length table.now ≡ 128 }
     ensures { result ≡ entry_above table.now }
 {
-    let mut s: usize = 0;
-    while s < 32 {
+    for s in 0..32 {
         if entry(table, s) > 9_999_999 {
             return true;
         }
-        s += 1;
     }
     false
 }

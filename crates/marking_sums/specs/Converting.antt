@@ -1,5 +1,5 @@
 -- The totals of the converted sums: what rates and haircuts have passed, sums up to the limit, and one currency more.
-use Rattle.std.specs.Prelude.{◌≡◌, refl, List, [], ◌∷◌, ℕ, zero, suc, ◌+◌, ◌<◌, ◌≤◌, leb, length, get_or, take, Option, Some, None}
+use Rattle.std.specs.Prelude.{◌≡◌, refl, List, [], ◌∷◌, ℕ, zero, suc, ◌+◌, ◌<◌, ◌≤◌, leb, length, get_or, take, ℤ, Option, Some, None}
 use Rattle.std.proofs.Math.Path.{sym, ap}
 use Rattle.std.proofs.Common.{ap₂, ◌∙◌, add-one, arith, take-suc, take_all, leb-true, leb-false}
 use Rattle.exact.specs.MulDiv.{limit}
@@ -7,6 +7,8 @@ use Rattle.exact.specs.Rounding.{capped, capped_whole, capped_past}
 use Rattle.units_rounded.specs.Conversion.{favourable_of, unfavourable_of}
 use Rattle.units_rounded.specs.ConversionLaws.{Terms}
 use Rattle.units.specs.declared.Mils.{Mils}
+use Rattle.marking_sums.specs.declared.conversion.Side.{Side}
+use Rattle.marking_sums.specs.declared.conversion.Side.TheVariants.{Favourable, Unfavourable}
 use Rattle.rules.specs.Words.{total, from}
 use Rattle.rules.specs.Bounds.{every_currency}
 use Rattle.laws.specs.Cases.{by_test}
@@ -34,6 +36,25 @@ favourable_sum sums rates haircuts = total (favourable_in sums rates haircuts) e
 unfoldable pub unfavourable_sum : List Mils → List ℕ → List ℕ → ℕ
 unfavourable_sum sums rates haircuts = total (unfavourable_in sums rates haircuts) every_currency
 
+-- ── either side ──
+
+abbrev pub converted_of : Side → ℤ → ℕ → ℕ → ℕ
+converted_of Favourable = favourable_of
+converted_of Unfavourable = unfavourable_of
+
+abbrev pub converted_sum : Side → List Mils → List ℕ → List ℕ → ℕ
+converted_sum Favourable = favourable_sum
+converted_sum Unfavourable = unfavourable_sum
+
+abbrev pub converted_in : Side → List Mils → List ℕ → List ℕ → ℕ → ℕ
+converted_in side sums rates haircuts c = converted_of side (amount_at sums c) (get_or rates c 0) (get_or haircuts c 0)
+
+pub converted_sum_is : (side : Side) (sums : List Mils) (rates haircuts : List ℕ)
+    → total (converted_in side sums rates haircuts) every_currency ≡ converted_sum side sums rates haircuts
+unfolding favourable_sum unfavourable_sum
+converted_sum_is Favourable sums rates haircuts = refl
+converted_sum_is Unfavourable sums rates haircuts = refl
+
 -- ── two numbers up to the limit ──
 
 abbrev pub together : Option ℕ → Option ℕ → Option ℕ
@@ -46,7 +67,7 @@ past_right : (r : Option ℕ) → together r None ≡ None
 past_right (Some x) = refl
 past_right None = refl
 
-pub past_left : (r : Option ℕ) → together None r ≡ None
+past_left : (r : Option ℕ) → together None r ≡ None
 past_left (Some x) = refl
 past_left None = refl
 

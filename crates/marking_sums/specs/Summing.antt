@@ -1,6 +1,6 @@
 -- Marks summed per currency in one pass over the records: what a record counts for, the sums so far, and that none passes 64 bits.
 use Rattle.std.specs.Prelude.{◌≡◌, refl, true, cond, List, [], ℕ, zero, suc, ◌+◌, ◌*◌, ◌<◌, ◌≤◌, eqb, leb, length, get_or, set, take, replicate, ℤ, pos, nat_abs, ◌+ℤ◌, ◌*ℤ◌}
-use Rattle.std.proofs.Common.{sym, ap, ap₂, ◌∙◌, mul-le-mul, arith, leb-true, eq-eqb}
+use Rattle.std.proofs.Common.{sym, ap, ap₂, ◌∙◌, mul-le-mul, arith, leb-true, eq-eqb, take_all}
 use Rattle.std.proofs.Math.Seq.{get_or-take, length-take-le}
 use Rattle.std.proofs.Math.IntN.{+ℤ_idr}
 use Rattle.integers.specs.Sizes.{nat_abs_sum, nat_abs_diff, nat_abs_mul}
@@ -12,7 +12,7 @@ use Rattle.rules.specs.Bounds.{most_records, currencies}
 use Rattle.rules.specs.Book.{quantity_of, money_of, account_of, security_of, open_of, currency_of, charged, no_position}
 use Rattle.rules.specs.Sound.{sizes_fit, is_position, records_of, sound}
 use Rattle.rules.specs.Prices.{price_of}
-use Rattle.rules.specs.Marks.{Terms, terms, mark_of, mark_at, lacks_price, sum_of}
+use Rattle.rules.specs.Marks.{Terms, terms, mark_of, mark_at, marked_of, lacks_price, sum_of}
 use Rattle.rules.specs.declared.Position.{Position}
 use Rattle.rules.specs.declared.Book.{Book}
 use Rattle.laws.specs.Cases.{by_test, both_hold, cond_yes, cond_no}
@@ -154,7 +154,7 @@ module _ (k : Book) (ok : sound k ≡ true) (codes_long : length k.currency ≡ 
   pub open_within : k.records ≤ most_records
   open_within = parts.records
 
-  pub open_length : length (open_of k) ≡ k.records
+  open_length : length (open_of k) ≡ k.records
   unfolding open_of
   open_length = length-take-le k.records k.positions (omega (arith, parts.records))
 
@@ -162,12 +162,33 @@ module _ (k : Book) (ok : sound k ≡ true) (codes_long : length k.currency ≡ 
     abbrev p : Position
     p = get_or k.positions i no_position
 
-    pub open_at : get_or (open_of k) i no_position ≡ p
+    open_at : get_or (open_of k) i no_position ≡ p
     unfolding open_of
     open_at = get_or-take k.records k.positions i no_position h
 
-    pub open_fits : sizes_fit p ≡ true
+    open_fits : sizes_fit p ≡ true
     open_fits = rw open_at at (all_at sizes_fit (open_of k) i no_position parts.sizes (omega (arith, open_length)))
 
-    pub open_currency : currency_of k (security_of p) < currencies
+    open_currency : currency_of k (security_of p) < currencies
     open_currency = rw open_at at (currency_below k codes_long parts i no_position (omega (arith, open_length)))
+
+    -- one turn of the pass: what the mark of the record asks, and the sums with it
+    module _ (a b : List ℕ) (n : ℕ) (s : PerCurrency) (fair : Fair a b) (so_far : Summed k (priced a b) n i s) where
+      pub open_asks : MarkAsks s k.currency a b p
+      unfolding currency_of
+      open_asks =
+          record {
+            fair = fair;
+            fits = open_fits;
+            currency = open_currency;
+            room = omega (arith, so_far.size (currency_of k (security_of p)), parts.records);
+          }
+
+      pub open_more : (next : PerCurrency) → next ≡ cond (eqb (account_of p) n) (with_mark s k.currency (priced a b) p) s → Summed k (priced a b) n (i + 1) next
+      open_more next is =
+          summed_more k (priced a b) n i s next p open_at (omega (arith, open_length)) open_currency (mark_small a b p fair open_fits) so_far is
+
+  pub summed_all : (t : Terms) (n i : ℕ) (s : PerCurrency) → Summed k t n i s → k.records ≤ i → (c : ℕ) → amount_at s.sums c ≡ sum_of k t (marked_of k n) c
+  unfolding marked_of
+  summed_all t n i s so_far h c =
+      so_far.sum c ∙ ap (sum_by (counted k t n c)) (take_all i (open_of k) (omega (arith, open_length))) ∙ sum_counted k t n c (open_of k)

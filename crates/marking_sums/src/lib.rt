@@ -5,5 +5,5 @@
 mod conversion;
 mod marks;
 
-pub use conversion::{favourable_total, unfavourable_total};
+pub use conversion::{Side, converted_total};
 pub use marks::{PerCurrency, sums_of};

@@ -21,12 +21,8 @@ fn mark(p: Position, intraday: &[u8], closing: &[u8]) -> Mils
     requires { Fair intraday.now closing.now × (sizes_fit p ≡ true) }
     ensures { (mils_of result ≡ mark_at (priced intraday.now closing.now) p) × (nat_abs (mils_of result) ≤ most_mark) }
 {
-    let s = security_of(p);
-    let price = price_of(intraday, closing, s);
-    let q = p.quantity;
-    let worth = q.times(price);
-    let money = p.money;
-    worth.minus(money)
+    let price = price_of(intraday, closing, security_of(p));
+    p.quantity.times(price).minus(p.money)
 }
 
 // The sum of the marks of each currency.
@@ -61,11 +57,8 @@ fn with_record(
         return t;
     }
     let c = currency_of(codes, p);
-    let m = mark(p, intraday, closing);
     let mut next = t;
-    let old = next.sums[c];
-    let sum = old.plus(m);
-    next.sums[c] = sum;
+    next.sums[c] = t.sums[c].plus(mark(p, intraday, closing));
     next
 }
 
@@ -76,13 +69,12 @@ pub fn sums_of(book: &BookBytes, account: usize, intraday: &[u8], closing: &[u8]
 {
     let codes = codes_of(book);
     let n = records_at(book) as usize;
-    let none = Mils(Whole(0));
-    let mut t = PerCurrency { sums: [none; 4] };
-    let mut i: usize = 0;
-    while i < n {
+    let mut t = PerCurrency {
+        sums: [Mils(Whole(0)); 4],
+    };
+    for i in 0..n {
         let p = position_at(book, i);
         t = with_record(t, &codes, account, intraday, closing, p);
-        i += 1;
     }
     t
 }

@@ -4,7 +4,6 @@
 
 mod vectors;
 
-use exact::Rounded;
 use std::io;
 use units::{Amount, Mils, Quantity, Shares};
 
@@ -27,19 +26,14 @@ fn print_money(rt: &impl Print, m: Mils) -> io::Result<()> {
     if m.is_negative() {
         print_text(rt, b"-")?;
     }
-    let size = m.size();
-    print_size(rt, size.0)
+    print_size(rt, m.size().0)
 }
 
 // A vector past the bounds of a record prints nothing, and so would differ from the expected output.
-fn show_part(rt: &impl Print, at: usize) -> io::Result<()> {
-    if 636 < at {
+fn show_part(rt: &impl Print, vector: &[u64]) -> io::Result<()> {
+    let &[below, m, q, k] = vector else {
         return Ok(());
-    }
-    let below = vectors::PARTS[at];
-    let m = vectors::PARTS[at + 1];
-    let q = vectors::PARTS[at + 2];
-    let k = vectors::PARTS[at + 3];
+    };
     if 2_560_000_000_000_000 < m {
         return Ok(());
     }
@@ -68,18 +62,14 @@ fn print_taken(rt: &impl Print, goes: Mils, stays: Left) -> io::Result<()> {
     print_text(rt, b" stays ")?;
     print_money(rt, stays.money)?;
     print_text(rt, b" ")?;
-    let shares = stays.shares;
-    let size = shares.size();
-    print_size(rt, size.0)?;
+    print_size(rt, stays.shares.size().0)?;
     print_text(rt, b"\n")
 }
 
 // Takes k shares off a position and prints what goes and what stays.
 fn take(rt: &impl Print, left: Left, k: Quantity) -> io::Result<Left> {
-    let m = left.money;
-    let q = left.shares;
-    let shares = q.size();
-    let money = m.size();
+    let shares = left.shares.size();
+    let money = left.money.size();
     if k.0 == 0 {
         return Ok(left);
     }
@@ -93,54 +83,46 @@ fn take(rt: &impl Print, left: Left, k: Quantity) -> io::Result<Left> {
         return Ok(left);
     }
     let taken = Shares::of(false, k);
-    let goes = units_rounded::part(m, q, taken);
+    let goes = units_rounded::part(left.money, left.shares, taken);
     let stays = Left {
-        money: m.minus(goes),
-        shares: q.toward_zero(taken),
+        money: left.money.minus(goes),
+        shares: left.shares.toward_zero(taken),
     };
     print_taken(rt, goes, stays)?;
     Ok(stays)
 }
 
-fn show_run(rt: &impl Print, at: usize) -> io::Result<()> {
-    if 24 < at {
+fn show_run(rt: &impl Print, vector: &[u64]) -> io::Result<()> {
+    let &[below, m, q, ref parts @ ..] = vector else {
         return Ok(());
-    }
-    let m = vectors::RUNS[at + 1];
-    let q = vectors::RUNS[at + 2];
+    };
     if 2_560_000_000_000_000 < m {
         return Ok(());
     }
     if 256_000_000 < q {
         return Ok(());
     }
-    let whole = Left {
-        money: Mils::of(vectors::RUNS[at] == 1, Amount(m)),
+    let mut left = Left {
+        money: Mils::of(below == 1, Amount(m)),
         shares: Shares::of(false, Quantity(q)),
     };
-    let one = take(rt, whole, Quantity(vectors::RUNS[at + 3]))?;
-    let two = take(rt, one, Quantity(vectors::RUNS[at + 4]))?;
-    let three = take(rt, two, Quantity(vectors::RUNS[at + 5]))?;
-    let four = take(rt, three, Quantity(vectors::RUNS[at + 6]))?;
-    take(rt, four, Quantity(vectors::RUNS[at + 7]))?;
+    for k in parts {
+        left = take(rt, left, Quantity(*k))?;
+    }
     Ok(())
 }
 
-fn print_count(rt: &impl Print, c: Rounded) -> io::Result<()> {
+fn print_count(rt: &impl Print, c: Option<u64>) -> io::Result<()> {
     match c {
-        Rounded::To(n) => print_size(rt, n)?,
-        Rounded::Past => print_text(rt, b"past")?,
+        Some(n) => print_size(rt, n),
+        None => print_text(rt, b"past"),
     }
-    Ok(())
 }
 
-fn show_sum(rt: &impl Print, at: usize) -> io::Result<()> {
-    if 477 < at {
+fn show_sum(rt: &impl Print, vector: &[u64]) -> io::Result<()> {
+    let &[sum, rate, haircut] = vector else {
         return Ok(());
-    }
-    let sum = vectors::SUMS[at];
-    let rate = vectors::SUMS[at + 1];
-    let haircut = vectors::SUMS[at + 2];
+    };
     if 9_223_372_036_854_775_807 < sum {
         return Ok(());
     }
@@ -164,24 +146,28 @@ fn show_sum(rt: &impl Print, at: usize) -> io::Result<()> {
 }
 
 fn show_parts(rt: &impl Print) -> io::Result<()> {
-    for i in 0..160 {
-        show_part(rt, i * 4)?;
+    for vector in vectors::PARTS.chunks_exact(4) {
+        show_part(rt, vector)?;
+    }
+    Ok(())
+}
+
+fn show_runs(rt: &impl Print) -> io::Result<()> {
+    for vector in vectors::RUNS.chunks_exact(8) {
+        show_run(rt, vector)?;
     }
     Ok(())
 }
 
 fn show_sums(rt: &impl Print) -> io::Result<()> {
-    for i in 0..160 {
-        show_sum(rt, i * 3)?;
+    for vector in vectors::SUMS.chunks_exact(3) {
+        show_sum(rt, vector)?;
     }
     Ok(())
 }
 
 fn main(rt: HostRuntime) -> io::Result<()> {
     show_parts(&rt)?;
-    show_run(&rt, 0)?;
-    show_run(&rt, 8)?;
-    show_run(&rt, 16)?;
-    show_run(&rt, 24)?;
+    show_runs(&rt)?;
     show_sums(&rt)
 }

@@ -11,39 +11,32 @@ impl Mils {
         requires { nat_abs (mils_of self) + nat_abs (mils_of other) < 2 ^ 63 }
         ensures { (mils_of result ≡ mils_of self +ℤ mils_of other) × (nat_abs (mils_of result) ≤ nat_abs (mils_of self) + nat_abs (mils_of other)) }
     {
-        let a = self.0;
-        let b = other.0;
-        Mils(a.plus(b))
+        Mils(self.0.plus(other.0))
     }
 
     pub fn minus(self, other: Mils) -> Mils
         requires { nat_abs (mils_of self) + nat_abs (mils_of other) < 2 ^ 63 }
         ensures { (mils_of result ≡ mils_of self -ℤ mils_of other) × (nat_abs (mils_of result) ≤ nat_abs (mils_of self) + nat_abs (mils_of other)) }
     {
-        let a = self.0;
-        let b = other.0;
-        Mils(a.minus(b))
+        Mils(self.0.minus(other.0))
     }
 
     pub fn is_negative(self) -> bool
         ensures { result ≡ is_negative (mils_of self) }
     {
-        let a = self.0;
-        a.is_negative()
+        self.0.is_negative()
     }
 
     pub fn is_zero(self) -> bool
         ensures { result ≡ eqb (nat_abs (mils_of self)) 0 }
     {
-        let a = self.0;
-        a.is_zero()
+        self.0.is_zero()
     }
 
     pub fn size(self) -> Amount
         ensures { result.0 ≡ nat_abs (mils_of self) }
     {
-        let a = self.0;
-        Amount(a.size())
+        Amount(self.0.size())
     }
 
     pub fn of(negative: bool, size: Amount) -> Mils
@@ -56,8 +49,7 @@ impl Mils {
     pub fn bits(self) -> u64
         ensures { result ≡ bits_of (mils_of self) }
     {
-        let a = self.0;
-        a.bits()
+        self.0.bits()
     }
 
     pub fn from_bits(b: u64) -> Mils

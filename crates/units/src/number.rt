@@ -12,25 +12,22 @@ impl Whole {
         requires { nat_abs self.0 + nat_abs other.0 < 2 ^ 63 }
         ensures { (result.0 ≡ self.0 +ℤ other.0) × (nat_abs result.0 ≤ nat_abs self.0 + nat_abs other.0) }
     {
-        let r = self.0 + other.0;
-        Whole(r)
+        Whole(self.0 + other.0)
     }
 
     pub fn minus(self, other: Whole) -> Whole
         requires { nat_abs self.0 + nat_abs other.0 < 2 ^ 63 }
         ensures { (result.0 ≡ self.0 -ℤ other.0) × (nat_abs result.0 ≤ nat_abs self.0 + nat_abs other.0) }
     {
-        let r = self.0 - other.0;
-        Whole(r)
+        Whole(self.0 - other.0)
     }
 
     pub fn times(self, price: u32) -> Whole
         requires { (nat_abs self.0 ≤ most_shares) × (price ≤ top_price) }
         ensures { (result.0 ≡ self.0 *ℤ pos price) × (nat_abs result.0 ≤ most_amount) }
     {
-        let p = price as i64;
-        let r = self.0 * p;
-        Whole(r)
+        let p = i64::from(price);
+        Whole(self.0 * p)
     }
 
     pub fn is_negative(self) -> bool
@@ -45,18 +42,11 @@ impl Whole {
         self.0 == 0
     }
 
-    // −1 − x and not −x: the least number of 64 bits has a size too.
+    // The least number of 64 bits has a size too.
     pub fn size(self) -> u64
         ensures { result ≡ nat_abs self.0 }
     {
-        let x = self.0;
-        if x < 0 {
-            let y = -1 - x;
-            let z = y as u64;
-            z + 1
-        } else {
-            x as u64
-        }
+        self.0.unsigned_abs()
     }
 
     // The number with this sign and this size.
@@ -65,12 +55,7 @@ impl Whole {
         ensures { (result.0 ≡ signed negative size) × (nat_abs result.0 ≡ size) }
     {
         let x = size as i64;
-        if negative {
-            let y = 0 - x;
-            Whole(y)
-        } else {
-            Whole(x)
-        }
+        Whole(if negative { -x } else { x })
     }
 
     // Nearer to zero by the size of k.
@@ -78,35 +63,19 @@ impl Whole {
         requires { (nat_abs self.0 < 2 ^ 63) × (nat_abs k.0 ≤ nat_abs self.0) }
         ensures { (result.0 ≡ toward_zero self.0 (nat_abs k.0)) × (nat_abs result.0 + nat_abs k.0 ≡ nat_abs self.0) }
     {
-        let j = k.size();
-        let s = self.size() - j;
-        Whole::of(self.is_negative(), s)
+        Whole::of(self.is_negative(), self.size() - k.size())
     }
 
     // The 64 bits of the number, by two's complement, and the number that 64 bits stand for.
     pub fn bits(self) -> u64
         ensures { result ≡ bits_of self.0 }
     {
-        let s = self.size();
-        if self.is_negative() {
-            let t = s - 1;
-            18446744073709551615 - t
-        } else {
-            s
-        }
+        self.0.cast_unsigned()
     }
 
     pub fn from_bits(b: u64) -> Whole
         ensures { result.0 ≡ value_of b }
     {
-        if b < 9223372036854775808 {
-            let x = b as i64;
-            Whole(x)
-        } else {
-            let k = 18446744073709551615 - b;
-            let x = k as i64;
-            let y = -1 - x;
-            Whole(y)
-        }
+        Whole(b.cast_signed())
     }
 }

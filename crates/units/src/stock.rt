@@ -11,39 +11,32 @@ impl Shares {
         requires { nat_abs (shares_of self) + nat_abs (shares_of other) < 2 ^ 63 }
         ensures { (shares_of result ≡ shares_of self +ℤ shares_of other) × (nat_abs (shares_of result) ≤ nat_abs (shares_of self) + nat_abs (shares_of other)) }
     {
-        let a = self.0;
-        let b = other.0;
-        Shares(a.plus(b))
+        Shares(self.0.plus(other.0))
     }
 
     pub fn minus(self, other: Shares) -> Shares
         requires { nat_abs (shares_of self) + nat_abs (shares_of other) < 2 ^ 63 }
         ensures { (shares_of result ≡ shares_of self -ℤ shares_of other) × (nat_abs (shares_of result) ≤ nat_abs (shares_of self) + nat_abs (shares_of other)) }
     {
-        let a = self.0;
-        let b = other.0;
-        Shares(a.minus(b))
+        Shares(self.0.minus(other.0))
     }
 
     pub fn is_negative(self) -> bool
         ensures { result ≡ is_negative (shares_of self) }
     {
-        let a = self.0;
-        a.is_negative()
+        self.0.is_negative()
     }
 
     pub fn is_zero(self) -> bool
         ensures { result ≡ eqb (nat_abs (shares_of self)) 0 }
     {
-        let a = self.0;
-        a.is_zero()
+        self.0.is_zero()
     }
 
     pub fn size(self) -> Quantity
         ensures { result.0 ≡ nat_abs (shares_of self) }
     {
-        let a = self.0;
-        Quantity(a.size())
+        Quantity(self.0.size())
     }
 
     pub fn of(negative: bool, size: Quantity) -> Shares
@@ -58,9 +51,7 @@ impl Shares {
         requires { (nat_abs (shares_of self) < 2 ^ 63) × (nat_abs (shares_of k) ≤ nat_abs (shares_of self)) }
         ensures { (shares_of result ≡ toward_zero (shares_of self) (nat_abs (shares_of k))) × (nat_abs (shares_of result) + nat_abs (shares_of k) ≡ nat_abs (shares_of self)) }
     {
-        let a = self.0;
-        let b = k.0;
-        Shares(a.toward_zero(b))
+        Shares(self.0.toward_zero(k.0))
     }
 
     // The amount for this many shares at a price (document 01: a trade's amount is quantity * price).
@@ -68,15 +59,13 @@ impl Shares {
         requires { (nat_abs (shares_of self) ≤ most_shares) × (price.0 ≤ top_price) }
         ensures { (mils_of result ≡ shares_of self *ℤ pos price.0) × (nat_abs (mils_of result) ≤ most_amount) }
     {
-        let a = self.0;
-        Mils(a.times(price.0))
+        Mils(self.0.times(price.0))
     }
 
     pub fn bits(self) -> u64
         ensures { result ≡ bits_of (shares_of self) }
     {
-        let a = self.0;
-        a.bits()
+        self.0.bits()
     }
 
     pub fn from_bits(b: u64) -> Shares

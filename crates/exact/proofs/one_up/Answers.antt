@@ -1,7 +1,5 @@
 -- `exact::one_up` meets its contract. Assumes nothing.
-use native.Mathlib.Omega.{arith}
-use Prim.Native.Nat.{◌+◌}
-use mathlib.Core.Path.{sym}
+use Rattle.std.proofs.Common.{◌+◌, sym, arith}
 use Rattle.exact.specs.Rounding.{capped_whole, capped_past, raised_more}
 use Rattle.exact.proofs.one_up.Goals as goal
 

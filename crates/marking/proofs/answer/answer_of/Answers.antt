@@ -1,17 +1,17 @@
 -- `marking::answer::answer_of` meets its contract. Assumes nothing.
-use mathlib.Core.Path.{sym, ◌∙◌}
-use Rattle.marking.specs.Answering.{answer_past, down_within, answer_due}
+use Rattle.std.proofs.Common.{arith}
+use Rattle.std.proofs.lemmas.Grind.{common_steps}
+use Rattle.marking.specs.Answering.{answer_past_up, answer_past_down, down_within, answer_due}
 use Rattle.marking.proofs.answer.answer_of.Goals as goal
 
-pub returns-then-passes_limit : goal.returns-then-passes_limit
-returns-then-passes_limit c = answer_past _ _ _ _ _ c.favourable_total-up.ensures c.unfavourable_total-down.ensures (sym c.passes_limit.ensures ∙ c.if-passes_limit.true)
+pub returns-in_err-up : goal.returns-in_err-up
+returns-in_err-up c = grind (arith, common_steps, answer_past_up)
+
+pub returns-in_err-down : goal.returns-in_err-down
+returns-in_err-down c = grind (arith, common_steps, answer_past_down)
 
 pub due_of-requires : goal.due_of-requires
-due_of-requires c =
-    rw c.amount_in-2.ensures
-    (down_within _ _ _ _ _ c.favourable_total-up.ensures c.unfavourable_total-down.ensures (sym c.passes_limit.ensures ∙ c.if-passes_limit.false))
+due_of-requires c = grind (arith, common_steps, down_within)
 
 pub returns : goal.returns
-returns c =
-    rw (c.amount_in.ensures, c.amount_in-2.ensures) at c.due_of.ensures
-    ∙ answer_due _ _ _ _ _ c.favourable_total-up.ensures c.unfavourable_total-down.ensures (sym c.passes_limit.ensures ∙ c.if-passes_limit.false)
+returns c = grind (arith, common_steps, answer_due)

@@ -1,10 +1,5 @@
 -- `marking::unpriced::has_unpriced` meets its contract. No record before i is one of the account that lacks a price. Assumes nothing.
-use mathlib.Core.Path.{◌≡◌}
-use mathlib.Core.Bool.{Bool, false, ◌&&◌}
-use mathlib.Core.List.{List}
-use Prim.Native.Nat.{ℕ, ◌-◌, ◌≤◌}
-use lib.Dec.{eqb}
-use lib.ListN.{take}
+use Rattle.std.specs.Prelude.{◌≡◌, Bool, false, ◌&&◌, List, ℕ, eqb, take}
 use Rattle.rules.specs.Words.{any}
 use Rattle.rules.specs.Book.{account_of, open_of}
 use Rattle.rules.specs.Layout.{book_of}
@@ -17,7 +12,4 @@ abbrev pub is_one : ℕ → List ℕ → List ℕ → Position → Bool
 is_one a intraday closing p = eqb (account_of p) a && lacks_price (priced intraday closing) p
 
 abbrev pub invariant-loop-i : goal.invariant-loop-i
-invariant-loop-i l = (l.i ≤ l.n) × (any (is_one l.account l.intraday l.closing) (take l.i (open_of (book_of l.book))) ≡ false)
-
-abbrev pub decreases-loop-i : goal.decreases-loop-i
-decreases-loop-i l = l.n - l.i
+invariant-loop-i l = any (is_one l.account l.intraday l.closing) (take l.i (open_of (book_of l.book))) ≡ false

@@ -1,5 +1,5 @@
 -- `marking_prices::prices::entry` meets its contract. Assumes nothing.
-use borrow.Author.Rules.{rules}
+use Rattle.std.proofs.Common.{rules}
 use Rattle.rules.specs.Prices.{entry_of}
 use Rattle.marking_prices.proofs.prices.entry.Goals as goal
 

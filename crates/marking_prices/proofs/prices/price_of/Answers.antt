@@ -1,5 +1,5 @@
 -- `marking_prices::prices::price_of` meets its contract. Assumes nothing.
-use mathlib.Core.Path.{sym, ◌∙◌}
+use Rattle.std.proofs.Common.{sym, ◌∙◌}
 use Rattle.marking_prices.specs.Pricing.{price_intraday, price_closing}
 use Rattle.marking_prices.proofs.prices.price_of.Goals as goal
 

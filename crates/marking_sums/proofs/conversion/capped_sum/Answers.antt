@@ -1,6 +1,5 @@
 -- `marking_sums::conversion::capped_sum` meets its contract. Assumes nothing.
-use mathlib.Core.Path.{sym}
-use native.Mathlib.Omega.{arith}
+use Rattle.std.proofs.Common.{sym, arith}
 use Rattle.exact.specs.Rounding.{capped_whole, capped_past}
 use Rattle.marking_sums.proofs.conversion.capped_sum.Goals as goal
 

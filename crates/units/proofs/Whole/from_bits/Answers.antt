@@ -1,25 +1,13 @@
--- `units::Whole::from_bits` meets its contract. Assumes nothing.
-use borrow.Author.Rules.{rules}
-use native.Mathlib.Omega.{arith}
-use Prim.Native.Nat.{◌-◌, ◌<◌, ◌^◌}
-use mir.Syntax.{w64}
-use mir.Facts.{to_z-of_z, to_z_pos}
+-- `units::Whole::from_bits` meets its contract: what the library takes 64 bits for is `value_of`. Assumes nothing.
+use Rattle.std.proofs.Common.{◌≡◌, refl, ◌∙◌, ℕ, ◌^◌, true, false, ltb, rules, w64, SFits, to_z, to_z-of_z}
 use Rattle.integers.specs.Bits.{value_of}
-use Rattle.units.proofs.Raw.{fit_minus_one, high_is}
 use Rattle.units.proofs.Whole.from_bits.Goals as goal
 
-pub overflow_sub-y : goal.overflow_sub-y
-overflow_sub-y c =
-    let k = 18446744073709551615 - c.args.b in
-    let h : k < 2 ^ 63 = omega arith in
-    rw (to_z_pos w64 h) (fit_minus_one k h)
-
-pub returns-then-b-lt9223372036854775808 : goal.returns-then-b-lt9223372036854775808
+complement : (b : ℕ) → to_z w64 b ≡ value_of b
 unfolding value_of
-returns-then-b-lt9223372036854775808 c = search rules
+complement b = elim (ltb b (2 ^ 63)) [ true ↦ refl | false ↦ refl ]
 
-pub returns-else-b-lt9223372036854775808 : goal.returns-else-b-lt9223372036854775808
-returns-else-b-lt9223372036854775808 c =
-    let k = 18446744073709551615 - c.args.b in
-    let h : k < 2 ^ 63 = omega arith in
-    simp (to_z_pos w64 h, to_z-of_z (fit_minus_one k h)) (high_is c.args.b (omega arith) (omega arith))
+pub returns : goal.returns
+returns c =
+    let fits : SFits w64 c.cast_signed.result = search rules in
+    to_z-of_z fits ∙ c.cast_signed.ensures ∙ complement c.args.b
