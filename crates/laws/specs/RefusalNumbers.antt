@@ -1,7 +1,7 @@
 -- The numbers of the refusals (document 01, "Refusal numbers"): none is 0, and no two have one, so that an answer without a figure is known by its number.
 use Rattle.std.specs.Prelude.{◌≡◌, refl, List, [], ◌∷◌, ℕ, ◌-◌, ◌≤◌, get_or, Result, Ok, Err}
 use Rattle.std.proofs.Common.{arith, ap, sym, ◌∙◌}
-use Rattle.rules.specs.Refusals.{number_of, answered}
+use Rattle.rules.specs.Refusals.{number_of, answered, value_or, numbered}
 use Rattle.rules.specs.declared.Refusal.{Refusal}
 use Rattle.rules.specs.declared.Refusal.TheVariants.{Unsound, Account, Security, Quantity, Price, SameAccount, NumberUsed, NoSuchTrade, ListFull, TableFull, NotHeld, HeldPastMost, MoreThanWanted, LastDay, Rates, TotalPastLimit, NoPrice, Length}
 
@@ -58,3 +58,23 @@ same_answer (Ok a) (Ok b) e = refl
 same_answer (Ok a) (Err s) e = absurd (omega (arith, some_number s, e))
 same_answer (Err r) (Ok b) e = absurd (omega (arith, some_number r, e))
 same_answer (Err r) (Err s) e = ap Err (same_number r s e)
+
+-- those that have a value too where that is the same,
+pub same_value : {A : Type 0} (y : A) (p q : Result A Refusal) → answered p ≡ answered q → value_or y p ≡ value_or y q → p ≡ q
+same_value y (Ok a) (Ok b) e v = ap Ok v
+same_value y (Ok a) (Err s) e v = absurd (omega (arith, some_number s, e))
+same_value y (Err r) (Ok b) e v = absurd (omega (arith, some_number r, e))
+same_value y (Err r) (Err s) e v = ap Err (same_number r s e)
+
+-- and any two that are the same by their number.
+number_back : {A : Type 0} → Result A ℕ → Result A Refusal
+number_back (Ok a) = Ok a
+number_back (Err n) = Err (refusal_at n)
+
+back_numbered : {A : Type 0} (p : Result A Refusal) → number_back (numbered p) ≡ p
+unfolding number_back
+back_numbered (Ok a) = refl
+back_numbered (Err r) = ap Err (at_number r)
+
+pub same_numbered : {A : Type 0} (p q : Result A Refusal) → numbered p ≡ numbered q → p ≡ q
+same_numbered p q e = sym (back_numbered p) ∙ ap number_back e ∙ back_numbered q

@@ -2,6 +2,7 @@
 -- promise need say so.)
 use Rattle.std.specs.Prelude.{◌≡◌}
 use Rattle.std.proofs.Common.{sym, ◌∙◌}
+use Rattle.laws.specs.RefusalNumbers.{same_answer, same_numbered}
 use Rattle.one_result.specs.One.{One}
 use Rattle.house.proofs.create.Kinds as create-kinds
 use Rattle.house.proofs.create.Reads as create-promise
@@ -26,28 +27,28 @@ use Rattle.house.proofs.marks.Reads as marks-promise
 
 -- the answer, and every byte of the book
 pub create_one : One 2 create-kinds.ps create-kinds.r create-promise.Post (λ κs x s y t. (x ≡ y) × (s.0.now ≡ t.0.now))
-create_one κs a x s y t p q = (p.0 ∙ sym q.0, p.1 ∙ sym q.1)
+create_one κs a x s y t p q = (same_answer x y (p.0 ∙ sym q.0), p.1 ∙ sym q.1)
 
 pub enter_one : One 1 enter-kinds.ps enter-kinds.r enter-promise.Post (λ κs x s y t. (x ≡ y) × (s.0.now ≡ t.0.now))
-enter_one κs a x s y t p q = (p.0 ∙ sym q.0, p.1 ∙ sym q.1)
+enter_one κs a x s y t p q = (same_answer x y (p.0 ∙ sym q.0), p.1 ∙ sym q.1)
 
 pub amend_one : One 1 amend-kinds.ps amend-kinds.r amend-promise.Post (λ κs x s y t. (x ≡ y) × (s.0.now ≡ t.0.now))
-amend_one κs a x s y t p q = (p.0 ∙ sym q.0, p.1 ∙ sym q.1)
+amend_one κs a x s y t p q = (same_answer x y (p.0 ∙ sym q.0), p.1 ∙ sym q.1)
 
 pub exclude_one : One 1 exclude-kinds.ps exclude-kinds.r exclude-promise.Post (λ κs x s y t. (x ≡ y) × (s.0.now ≡ t.0.now))
-exclude_one κs a x s y t p q = (p.0 ∙ sym q.0, p.1 ∙ sym q.1)
+exclude_one κs a x s y t p q = (same_answer x y (p.0 ∙ sym q.0), p.1 ∙ sym q.1)
 
 pub roll_one : One 1 roll-kinds.ps roll-kinds.r roll-promise.Post (λ κs x s y t. (x ≡ y) × (s.0.now ≡ t.0.now))
-roll_one κs a x s y t p q = (p.0 ∙ sym q.0, p.1 ∙ sym q.1)
+roll_one κs a x s y t p q = (same_answer x y (p.0 ∙ sym q.0), p.1 ∙ sym q.1)
 
 pub deposit_one : One 1 deposit-kinds.ps deposit-kinds.r deposit-promise.Post (λ κs x s y t. (x ≡ y) × (s.0.now ≡ t.0.now))
-deposit_one κs a x s y t p q = (p.0 ∙ sym q.0, p.1 ∙ sym q.1)
+deposit_one κs a x s y t p q = (same_answer x y (p.0 ∙ sym q.0), p.1 ∙ sym q.1)
 
 pub withdraw_one : One 1 withdraw-kinds.ps withdraw-kinds.r withdraw-promise.Post (λ κs x s y t. (x ≡ y) × (s.0.now ≡ t.0.now))
-withdraw_one κs a x s y t p q = (p.0 ∙ sym q.0, p.1 ∙ sym q.1)
+withdraw_one κs a x s y t p q = (same_answer x y (p.0 ∙ sym q.0), p.1 ∙ sym q.1)
 
 pub run_one : One 1 run-kinds.ps run-kinds.r run-promise.Post (λ κs x s y t. (x ≡ y) × (s.0.now ≡ t.0.now))
-run_one κs a x s y t p q = (p.0 ∙ sym q.0, p.1 ∙ sym q.1)
+run_one κs a x s y t p q = (same_numbered x y (p.0 ∙ sym q.0), p.1 ∙ sym q.1)
 
 -- the part, the refusal, and where the part stands
 pub price_one : One 2 price-kinds.ps price-kinds.r price-promise.Post (λ κs x s y t. (x.now ≡ y.now) × (s.1.1.1.0.now ≡ t.1.1.1.0.now) × (x.ref_ptr ≡ y.ref_ptr))
@@ -55,4 +56,4 @@ price_one κs a x s y t p q = (p.0 ∙ sym q.0, p.1 ∙ sym q.1, p.2 ∙ sym q.2
 
 -- the answer
 pub marks_one : One 5 marks-kinds.ps marks-kinds.r marks-promise.Post (λ κs x s y t. x ≡ y)
-marks_one κs a x s y t p q = p.0 ∙ sym q.0
+marks_one κs a x s y t p q = same_numbered x y (p.0 ∙ sym q.0)

@@ -7,6 +7,7 @@ use contract.Monad.{fact}
 use denote.Triple.Clauses.{AtExit}
 use borrow.Fn.World.{World, ArgsD, ResD}
 use Rattle.rules.specs.Sheet.{line_answer, line_part, line_spot, line_tally}
+use Rattle.laws.specs.RefusalNumbers.{same_value}
 use Rattle.one_result.specs.One.{One}
 use Rattle.lines.proofs.put_counted.Kinds as put-kinds
 use Rattle.lines.proofs.put_counted.Reads as put-promise
@@ -16,7 +17,7 @@ use Rattle.lines.specs.contracts.write_line as write
 
 -- refusal and tally, and every byte of the buffer
 pub put_one : One 1 put-kinds.ps put-kinds.r put-promise.Post (λ κs x s y t. (x ≡ y) × (s.0.now ≡ t.0.now))
-put_one κs a x s y t p q = (λ i. record { tally = (p.1 ∙ sym q.1) i; refusal = (p.0 ∙ sym q.0) i }, p.2 ∙ sym q.2)
+put_one κs a x s y t p q = (same_value a.1.1.0 x y (p.0 ∙ sym q.0) (p.1 ∙ sym q.1), p.2 ∙ sym q.2)
 
 -- the part and where it stands, and the refusal
 pub part_one : One 2 part-kinds.ps part-kinds.r part-promise.Post (λ κs x s y t. (x.now ≡ y.now) × (x.ref_ptr ≡ y.ref_ptr) × (s.1.1.1.0.now ≡ t.1.1.1.0.now))
