@@ -1,13 +1,10 @@
 -- The fields of a record of a call file, where they stand in the file.
-use Rattle.std.specs.Prelude.{◌≡◌, refl, Bool, true, false, List, [], ◌∷◌, ℕ, zero, suc, ◌+◌, ◌≤◌, ◌<◌, length, get_or, take, drop}
-use Rattle.std.proofs.Common.{sym, ap, ◌∙◌, arith, lit≤, length-take, length-drop, get_or-take, get_or-drop, drop-drop}
+use Rattle.std.specs.Prelude.{◌≡◌, refl, List, [], ◌∷◌, ℕ, zero, suc, ◌+◌, ◌≤◌, take, drop}
+use Rattle.std.proofs.Common.{sym, ap, ◌∙◌, lit≤, drop-drop}
 use Rattle.fields.specs.Field.{field}
 use Rattle.fields.specs.FieldLaws.{field_from, field_in}
-use Rattle.rules.specs.Words.{all}
-use Rattle.rules.specs.Sound.{is_code}
 use Rattle.rules.specs.Records.{trade_in}
 use Rattle.rules.specs.declared.Trade.{Trade}
-use Rattle.laws.specs.Walks.{all_none, all_more, all_fails, all_done}
 
 -- ── the body ──
 
@@ -51,28 +48,3 @@ module _ (place : ℕ) (file : List ℕ) where
 
   pub codes_in_lem : codes_at place file ≡ drop 1 (body_at 33 place file)
   codes_in_lem = ap (take 32) (sym (drop-drop 1 2 (drop place file) ∙ drop-drop 3 place file)) ∙ sym (drop_one 32 (drop 2 (drop place file)))
-
--- ── the codes of a create, one by one ──
-
-module _ (at : ℕ) (file : List ℕ) where
-  abbrev codes : List ℕ
-  codes = take 32 (drop at file)
-
-  codes_long : at + 32 ≤ length file → length codes ≡ 32
-  codes_long h = omega (arith, length-take 32 (drop at file), length-drop at file)
-
-  code_is : (i : ℕ) → i < 32 → get_or codes i 0 ≡ get_or file (at + i) 0
-  code_is i h = get_or-take 32 (drop at file) i 0 h ∙ get_or-drop at file i 0
-
-  pub codes_none : all is_code (take 0 codes) ≡ true
-  codes_none = all_none is_code codes
-
-  pub codes_fail : (i : ℕ) (r : Bool) → i < 32 → at + 32 ≤ length file → r ≡ is_code (get_or file (at + i) 0) → r ≡ false → false ≡ all is_code codes
-  codes_fail i r h l e f = all_fails is_code codes i 0 (omega (arith, codes_long l)) (ap is_code (code_is i h) ∙ sym e ∙ f)
-
-  pub codes_more : (i : ℕ) (r : Bool) → i < 32 → at + 32 ≤ length file → r ≡ is_code (get_or file (at + i) 0) → r ≡ true
-      → all is_code (take i codes) ≡ true → all is_code (take (i + 1) codes) ≡ true
-  codes_more i r h l e f a = all_more is_code codes i 0 (omega (arith, codes_long l)) a (ap is_code (code_is i h) ∙ sym e ∙ f)
-
-  pub codes_done : (i : ℕ) → 32 ≤ i → all is_code (take i codes) ≡ true → true ≡ all is_code codes
-  codes_done i h a = all_done is_code codes i (omega (arith, length-take 32 (drop at file))) a

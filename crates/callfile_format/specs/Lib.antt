@@ -1,5 +1,4 @@
--- Reading a call file: version and end, fields where they stand, kinds of records, the record at a place, and the walk from one to the next.
-pub mod Framing
+-- Reading a call file: fields where they stand, kinds of records, the record at a place, and the walk from one to the next.
 pub mod Bodies
 pub mod Kinds
 pub mod Reading

@@ -1,27 +1,23 @@
 // How a call file is framed (document 01, "Call file and sheet"): "One version byte, 1. Then records, each with a 2-byte big-endian length of what
 // follows it".
-ghost use Rattle.std.specs.Prelude.{◌≡◌, ◌+◌, ◌≤◌, length, drop};
+ghost use Rattle.std.specs.Prelude.{◌≡◌, ◌+◌, ◌<◌, ◌≤◌, MatchOption, length, drop};
 ghost use Rattle.rules.specs.Bounds.{most_file};
 ghost use Rattle.rules.specs.Records.{length_of, other_version, past_end};
 
 // An empty file has no version, and so another.
+#[tactic(auto, unfolding(rules::specs::Records::other_version))]
 pub fn other_version(file: &[u8]) -> bool
     ensures { result ≡ other_version file.now }
 {
-    if file.len() == 0 {
-        return true;
-    }
-    file[0] != 1
+    file.is_empty() || file[0] != 1
 }
 
 // A version with no record behind it is not the end: it is unreadable at place 1.
+#[tactic(auto, unfolding(rules::specs::Records::past_end))]
 pub fn past_end(file: &[u8], place: u32) -> bool
     ensures { result ≡ past_end file.now place }
 {
-    if place <= 1 {
-        return false;
-    }
-    file.len() <= place as usize
+    place > 1 && file.len() <= place as usize
 }
 
 // Where the record behind the one at a place begins, if its length can be read.

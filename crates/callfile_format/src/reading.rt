@@ -1,12 +1,13 @@
 // What stands at a place of a call file (document 01, "Call file and sheet"): a record of one of eight kinds, or nothing
 // that can be read.
 ghost use Rattle.std.specs.Prelude.{◌≡◌, ◌+◌, ◌≤◌, length, take, drop};
+ghost use Rattle.fields.specs.Field.{field};
 ghost use Rattle.rules.specs.Words.{all};
 ghost use Rattle.rules.specs.Sound.{is_code};
 ghost use Rattle.rules.specs.Records.{record_at, trade_in};
 ghost use Rattle.callfile_format.specs.Bodies.{body_at, codes_at};
 ghost use Rattle.callfile_format.specs.Kinds.{long_of, Found};
-ghost use Rattle.callfile_format.specs.Reading.{deposit_in, withdrawal_in, says};
+ghost use Rattle.callfile_format.specs.Reading.{says};
 
 use fields::get;
 use rules::Trade;
@@ -27,6 +28,7 @@ pub enum Read {
 }
 
 // How long the body of a kind of record is, its kind byte included.
+#[tactic(auto, using(crate::specs::Kinds::no_kind), unfolding(crate::specs::Kinds::long_of))]
 fn long_of(kind: u8) -> Option<u64>
     ensures { result ≡ long_of kind }
 {
@@ -77,24 +79,16 @@ fn trade_at(file: &[u8], place: usize) -> Trade
     }
 }
 
-fn deposit_at(file: &[u8], place: usize) -> Read
+// What a deposit and a withdrawal have behind their kind: account, security and quantity.
+fn moved_at(file: &[u8], place: usize) -> (u8, u8, u64)
     requires { place + 13 ≤ length file.now }
-    ensures { result ≡ deposit_in (body_at 11 place file.now) }
+    ensures { (result.0 ≡ field 1 1 (body_at 11 place file.now))
+        × (result.1 ≡ field 1 2 (body_at 11 place file.now))
+        × (result.2 ≡ field 8 3 (body_at 11 place file.now)) }
 {
     let account = get(file, place + 3, 1) as u8;
     let security = get(file, place + 4, 1) as u8;
-    let quantity = get(file, place + 5, 8);
-    Read::Deposit(account, security, quantity)
-}
-
-fn withdrawal_at(file: &[u8], place: usize) -> Read
-    requires { place + 13 ≤ length file.now }
-    ensures { result ≡ withdrawal_in (body_at 11 place file.now) }
-{
-    let account = get(file, place + 3, 1) as u8;
-    let security = get(file, place + 4, 1) as u8;
-    let quantity = get(file, place + 5, 8);
-    Read::Withdraw(account, security, quantity)
+    (account, security, get(file, place + 5, 8))
 }
 
 // Whether the 32 bytes from a place on are currency codes.
@@ -102,14 +96,7 @@ fn codes_fit_at(file: &[u8], at: usize) -> bool
     requires { at + 32 ≤ length file.now }
     ensures { result ≡ all is_code (take 32 (drop at file.now)) }
 {
-    let mut i: usize = 0;
-    while i < 32 {
-        if !is_code(file[at + i]) {
-            return false;
-        }
-        i += 1;
-    }
-    true
+    file[at..at + 32].iter().all(|code| is_code(*code))
 }
 
 // At place 1 stands a create, with good codes, or nothing that can be read.
@@ -134,8 +121,14 @@ pub fn record_at(file: &[u8], place: usize) -> Option<Read>
         2 => Some(Read::Amend(trade_at(file, place))),
         3 => Some(Read::Exclude(get(file, place + 3, 2) as u16)),
         4 => Some(Read::Roll),
-        5 => Some(deposit_at(file, place)),
-        6 => Some(withdrawal_at(file, place)),
+        5 => {
+            let (account, security, quantity) = moved_at(file, place);
+            Some(Read::Deposit(account, security, quantity))
+        }
+        6 => {
+            let (account, security, quantity) = moved_at(file, place);
+            Some(Read::Withdraw(account, security, quantity))
+        }
         7 => Some(Read::Run(get(file, place + 3, 1) as u8)),
         _ => None,
     }

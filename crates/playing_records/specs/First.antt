@@ -1,8 +1,7 @@
 -- What stands first in a file: another version, nothing that can be read, or a create with calls behind it; and so its answers and its book.
-use Rattle.std.specs.Prelude.{◌≡◌, Bool, true, false, ◌&&◌, List, [], ◌∷◌, ℕ, ◌*◌, ◌≤◌, eqb, length, drop}
+use Rattle.std.specs.Prelude.{◌≡◌, Option, Some, None, is_none, Bool, true, false, ◌&&◌, List, [], ◌∷◌, ℕ, ◌*◌, ◌≤◌, eqb, length, drop}
 use Rattle.std.proofs.Math.Path.{refl, sym, ap}
 use Rattle.std.proofs.Common.{◌∙◌, arith, length-append, eqb-true}
-use Rattle.std.proofs.Math.Option.{some, none}
 use Rattle.rules.specs.Words.{all, each}
 use Rattle.rules.specs.Sound.{is_code}
 use Rattle.rules.specs.Book.{empty_book}
@@ -17,7 +16,7 @@ use Rattle.callfile_format.specs.declared.reading.Read.{Read}
 use Rattle.callfile_format.specs.declared.reading.Read.TheVariants as read
 use Rattle.callfile_format.specs.Reading.{says}
 use Rattle.callfile_format.specs.Walking.{next_of, first_then, records_next}
-use Rattle.playing_records.specs.Steps.{is_none, left_at, is_create, readable_fits, number_left}
+use Rattle.playing_records.specs.Steps.{left_at, is_create, readable_fits, number_left}
 use Rattle.playing_records.specs.Playing.{text_of, nine, nine_long, answers_left}
 
 -- ── what stands first ──
@@ -50,17 +49,17 @@ module _ (file codes : List ℕ) where
   unfolding record_at is_call
   not_call c e = true_false (sym (ap is_call e)) (no_first (front_of (drop 1 file)))
 
-  pub first_create : (r : Read) → says r codes ≡ record_at file 1 → is_none r ≡ false → record_at file 1 ≡ create codes
+  pub first_create : (r : Option Read) → says r codes ≡ record_at file 1 → is_none r ≡ false → record_at file 1 ≡ create codes
   unfolding says
-  first_create read.Create e n = sym e
-  first_create (read.Enter t) e n = not_call _ e
-  first_create (read.Amend t) e n = not_call _ e
-  first_create (read.Exclude m) e n = not_call _ e
-  first_create read.Roll e n = not_call _ e
-  first_create (read.Deposit a s q) e n = not_call _ e
-  first_create (read.Withdraw a s q) e n = not_call _ e
-  first_create (read.Run s) e n = not_call _ e
-  first_create read.Unreadable e n = true_false refl n
+  first_create None e n = true_false refl n
+  first_create (Some read.Create) e n = sym e
+  first_create (Some (read.Enter t)) e n = not_call _ e
+  first_create (Some (read.Amend t)) e n = not_call _ e
+  first_create (Some (read.Exclude m)) e n = not_call _ e
+  first_create (Some read.Roll) e n = not_call _ e
+  first_create (Some (read.Deposit a s q)) e n = not_call _ e
+  first_create (Some (read.Withdraw a s q)) e n = not_call _ e
+  first_create (Some (read.Run s)) e n = not_call _ e
 
 -- ── a create takes 35 bytes ──
 
@@ -109,29 +108,29 @@ module _ (file codes : List ℕ) (e : record_at file 1 ≡ create codes) where
 
 -- ── what the file says ──
 
-pub other_says : (file : List ℕ) → other_version file ≡ true → contents_of file ≡ record { codes = none; calls = []; place = some 0 }
+pub other_says : (file : List ℕ) → other_version file ≡ true → contents_of file ≡ record { codes = None; calls = []; place = Some 0 }
 unfolding contents_of records_in contents before
 other_says file e = ap contents (cond_yes _ _ e)
 
 module _ (file : List ℕ) (ours : other_version file ≡ false) where
-  pub none_first : record_at file 1 ≡ unreadable → contents_of file ≡ record { codes = none; calls = []; place = some 1 }
+  pub none_first : record_at file 1 ≡ unreadable → contents_of file ≡ record { codes = None; calls = []; place = Some 1 }
   unfolding contents_of contents before
   none_first e = ap contents (first_is file ours) ∙ rw e refl
 
   pub create_first : (codes : List ℕ) → record_at file 1 ≡ create codes
-      → contents_of file ≡ record { codes = some codes; calls = (left_at file 36).calls; place = (left_at file 36).place }
+      → contents_of file ≡ record { codes = Some codes; calls = (left_at file 36).calls; place = (left_at file 36).place }
   unfolding contents_of contents before is_unreadable left_at
   create_first codes e = ap contents (first_is file ours) ∙ rw (e, behind_create file codes e) refl
 
 -- ── the answers and the book of the file ──
 
 module _ (file : List ℕ) where
-  pub unread : (p : ℕ) → contents_of file ≡ record { codes = none; calls = []; place = some p } → file_of file ≡ record { answers = record { number = 19; figure = p } ∷ []; book = none }
+  pub unread : (p : ℕ) → contents_of file ≡ record { codes = None; calls = []; place = Some p } → file_of file ≡ record { answers = record { number = 19; figure = p } ∷ []; book = None }
   unfolding file_of played_from nineteen
   unread p e = rw e refl
 
-  pub begun : (codes : List ℕ) → contents_of file ≡ record { codes = some codes; calls = (left_at file 36).calls; place = (left_at file 36).place }
-      → file_of file ≡ record { answers = record { number = 0; figure = 0 } ∷ answers_left (empty_book codes) (left_at file 36); book = some (made (empty_book codes) (left_at file 36).calls) }
+  pub begun : (codes : List ℕ) → contents_of file ≡ record { codes = Some codes; calls = (left_at file 36).calls; place = (left_at file 36).place }
+      → file_of file ≡ record { answers = record { number = 0; figure = 0 } ∷ answers_left (empty_book codes) (left_at file 36); book = Some (made (empty_book codes) (left_at file 36).calls) }
   unfolding file_of played_from answers_left
   begun codes e = rw (e, sym (played_made (empty_book codes) (left_at file 36).calls)) refl
 

@@ -1,5 +1,5 @@
 -- The calls behind the create meet the book one after another, over lent bytes: what is left decides the answers and the book at the end.
-use Rattle.std.specs.Prelude.{◌≡◌, false, ℕ, ◌+◌, ◌≤◌, ◌<◌}
+use Rattle.std.specs.Prelude.{◌≡◌, Option, false, ℕ, ◌+◌, ◌≤◌, ◌<◌}
 use Rattle.std.proofs.Math.Path.{refl, sym, ap, ap₂, subst}
 use Rattle.std.proofs.Common.{◌∙◌, arith, length-append, eq-eqb}
 use mathlib.Core.List.{List, [], ◌∷◌, ◌++◌}
@@ -177,7 +177,7 @@ module _ (file bs answers : List ℕ) (place at : ℕ) (B A : List ℕ) (s : Sta
 
     module _ (n f : ℕ) (bs' answers' : List ℕ) (place' at' : ℕ) (ea : answers' ≡ stored answers at (nine n f)) (ep : place' ≡ next_in file place)
         (le : place' ≤ length file) (lt : place < place') (eat : at' ≡ at + 9) where
-      by_shows : (found : Read) → Applied bs place found n f bs' → Shows found (record_at file place) → State file bs' answers' place' at' B A
+      by_shows : (found : Option Read) → Applied bs place found n f bs' → Shows found (record_at file place) → State file bs' answers' place' at' B A
       unfolding number_by figure_by bytes_by
       by_shows found a (a_call c ec er) =
           let h = s.holds in
@@ -198,10 +198,10 @@ module _ (file bs answers : List ℕ) (place at : ℕ) (B A : List ℕ) (s : Sta
           (text_none file place there k er ∙ ap₂ (λ (x y : ℕ). nine x y ++ text_left k (left_at file (next_in file place))) (sym en) (sym ef))
           (made_none file place there k er) ea ep le lt eat
 
-      pub step : (found : Read) (codes : List ℕ) → says found codes ≡ record_at file place → Applied bs place found n f bs' → State file bs' answers' place' at' B A
+      pub step : (found : Option Read) (codes : List ℕ) → says found codes ≡ record_at file place → Applied bs place found n f bs' → State file bs' answers' place' at' B A
       step found codes e a = by_shows found a (shows file place (λ z. omega (arith, s.late, z)) found codes e)
 
-    room_by : (found : Read) → Shows found (record_at file place) → at + 9 ≤ length answers
+    room_by : (found : Option Read) → Shows found (record_at file place) → at + 9 ≤ length answers
     room_by found (a_call c ec er) =
         let k = book_of bs in
         omega (
@@ -215,7 +215,7 @@ module _ (file bs answers : List ℕ) (place at : ℕ) (B A : List ℕ) (s : Sta
         let k = book_of bs in
         omega (arith, s.room, ap length (text_none file place there k er), length-append (nine 19 place) (text_left k (left_at file (next_in file place))), nine_long 19 place)
 
-    pub one_more : (found : Read) (codes : List ℕ) → says found codes ≡ record_at file place → at + 9 ≤ length answers
+    pub one_more : (found : Option Read) (codes : List ℕ) → says found codes ≡ record_at file place → at + 9 ≤ length answers
     one_more found codes e = room_by found (shows file place (λ z. omega (arith, s.late, z)) found codes e)
 
 -- ── lengths ──

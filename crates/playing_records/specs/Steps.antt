@@ -1,8 +1,7 @@
 -- The walk over a call file behind its create: what stands at a place is a call, with more behind it, or unreadable, and then the walk ends.
-use Rattle.std.specs.Prelude.{◌≡◌, Bool, true, false, cond, List, [], ◌∷◌, ℕ, ◌+◌, ◌≤◌, ◌<◌, eqb, ltb, length, take, drop}
+use Rattle.std.specs.Prelude.{◌≡◌, Option, Some, None, is_none, Bool, true, false, cond, List, [], ◌∷◌, ℕ, ◌+◌, ◌≤◌, ◌<◌, eqb, ltb, length, take, drop}
 use Rattle.std.proofs.Math.Path.{refl, sym, ap}
 use Rattle.std.proofs.Common.{◌∙◌, arith, length-take, ltb-false, ne_eqb}
-use Rattle.std.proofs.Math.Option.{some, none}
 use Rattle.std.proofs.Math.ListN.{length-drop}
 use Rattle.fields.specs.Field.{field}
 use Rattle.fields.specs.Codec.{field_at}
@@ -18,40 +17,22 @@ use Rattle.playing_records.specs.Applying.{call_in}
 
 -- ── what was read ──
 
-abbrev pub is_none : Read → Bool
-is_none read.Create = false
-is_none (read.Enter t) = false
-is_none (read.Amend t) = false
-is_none (read.Exclude n) = false
-is_none read.Roll = false
-is_none (read.Deposit a s q) = false
-is_none (read.Withdraw a s q) = false
-is_none (read.Run s) = false
-is_none read.Unreadable = true
-
-pub none_says : (r : Read) (codes : List ℕ) → is_none r ≡ is_unreadable (says r codes)
+pub none_says : (r : Option Read) (codes : List ℕ) → is_none r ≡ is_unreadable (says r codes)
 unfolding is_unreadable says
-none_says read.Create codes = refl
-none_says (read.Enter t) codes = refl
-none_says (read.Amend t) codes = refl
-none_says (read.Exclude n) codes = refl
-none_says read.Roll codes = refl
-none_says (read.Deposit a s q) codes = refl
-none_says (read.Withdraw a s q) codes = refl
-none_says (read.Run s) codes = refl
-none_says read.Unreadable codes = refl
+none_says None codes = refl
+none_says (Some read.Create) codes = refl
+none_says (Some (read.Enter t)) codes = refl
+none_says (Some (read.Amend t)) codes = refl
+none_says (Some (read.Exclude n)) codes = refl
+none_says (Some read.Roll) codes = refl
+none_says (Some (read.Deposit a s q)) codes = refl
+none_says (Some (read.Withdraw a s q)) codes = refl
+none_says (Some (read.Run s)) codes = refl
 
-pub none_there : (r : Read) (codes : List ℕ) (found : Record) → says r codes ≡ found → is_none r ≡ true → found ≡ unreadable
+pub none_there : (r : Option Read) (codes : List ℕ) (found : Record) → says r codes ≡ found → is_none r ≡ true → found ≡ unreadable
 unfolding says
-none_there read.Create codes found e n = true_false n refl
-none_there (read.Enter t) codes found e n = true_false n refl
-none_there (read.Amend t) codes found e n = true_false n refl
-none_there (read.Exclude m) codes found e n = true_false n refl
-none_there read.Roll codes found e n = true_false n refl
-none_there (read.Deposit a s q) codes found e n = true_false n refl
-none_there (read.Withdraw a s q) codes found e n = true_false n refl
-none_there (read.Run s) codes found e n = true_false n refl
-none_there read.Unreadable codes found e n = sym e
+none_there None codes found e n = sym e
+none_there (Some r) codes found e n = true_false n refl
 
 -- ── where the next record begins ──
 
@@ -100,7 +81,7 @@ module _ (file : List ℕ) (place : ℕ) where
 unfoldable pub left_at : List ℕ → ℕ → Contents
 left_at file place = contents (records_at file place)
 
-pub left_end : (file : List ℕ) (place : ℕ) → length file ≤ place → left_at file place ≡ record { codes = none; calls = []; place = none }
+pub left_end : (file : List ℕ) (place : ℕ) → length file ≤ place → left_at file place ≡ record { codes = None; calls = []; place = None }
 unfolding left_at contents
 left_end file place h = ap contents (records_end file place h)
 
@@ -110,19 +91,19 @@ module _ (file : List ℕ) (place : ℕ) (there : place < length file) where
   unfolding left_at contents before is_unreadable next_in
   left_call c e = ap contents (records_next file place there) ∙ rw e refl
 
-  pub left_none : record_at file place ≡ unreadable → left_at file place ≡ record { codes = none; calls = []; place = some place }
+  pub left_none : record_at file place ≡ unreadable → left_at file place ≡ record { codes = None; calls = []; place = Some place }
   unfolding left_at contents before is_unreadable
   left_none e = ap contents (records_next file place there) ∙ rw e refl
 
-  pub left_stops : record_at file place ≡ unreadable → left_at file (next_in file place) ≡ record { codes = none; calls = []; place = none }
+  pub left_stops : record_at file place ≡ unreadable → left_at file (next_in file place) ≡ record { codes = None; calls = []; place = None }
   unfolding is_unreadable
   left_stops e = left_end file (next_in file place) (omega (arith, next_end file place (ap is_unreadable e)))
 
 -- ── what a record that was read shows behind the create ──
 
-pub data Shows (found : Read) (r : Record) : Type 0 where
-  a_call : (c : Call) → call_in found ≡ some c → r ≡ call c → Shows found r
-  nothing : call_in found ≡ none → r ≡ unreadable → Shows found r
+pub data Shows (found : Option Read) (r : Record) : Type 0 where
+  a_call : (c : Call) → call_in found ≡ Some c → r ≡ call c → Shows found r
+  nothing : call_in found ≡ None → r ≡ unreadable → Shows found r
 
 unfoldable pub is_create : Record → Bool
 is_create (create codes) = true
@@ -136,17 +117,17 @@ never place (call c) n = by_test (eqb place 1) (λ y. rw y) (λ y. rw y)
 never place unreadable n = refl
 
 module _ (file : List ℕ) (place : ℕ) (late : place ≡ 1 → ⊥) where
-  pub shows : (found : Read) (codes : List ℕ) → says found codes ≡ record_at file place → Shows found (record_at file place)
+  pub shows : (found : Option Read) (codes : List ℕ) → says found codes ≡ record_at file place → Shows found (record_at file place)
   unfolding call_in says record_at is_create
-  shows read.Create codes e = true_false (sym (ap is_create e)) (never place (front_of (drop place file)) late)
-  shows (read.Enter t) codes e = a_call _ refl (sym e)
-  shows (read.Amend t) codes e = a_call _ refl (sym e)
-  shows (read.Exclude n) codes e = a_call _ refl (sym e)
-  shows read.Roll codes e = a_call _ refl (sym e)
-  shows (read.Deposit a s q) codes e = a_call _ refl (sym e)
-  shows (read.Withdraw a s q) codes e = a_call _ refl (sym e)
-  shows (read.Run s) codes e = a_call _ refl (sym e)
-  shows read.Unreadable codes e = nothing refl (sym e)
+  shows None codes e = nothing refl (sym e)
+  shows (Some read.Create) codes e = true_false (sym (ap is_create e)) (never place (front_of (drop place file)) late)
+  shows (Some (read.Enter t)) codes e = a_call _ refl (sym e)
+  shows (Some (read.Amend t)) codes e = a_call _ refl (sym e)
+  shows (Some (read.Exclude n)) codes e = a_call _ refl (sym e)
+  shows (Some read.Roll) codes e = a_call _ refl (sym e)
+  shows (Some (read.Deposit a s q)) codes e = a_call _ refl (sym e)
+  shows (Some (read.Withdraw a s q)) codes e = a_call _ refl (sym e)
+  shows (Some (read.Run s)) codes e = a_call _ refl (sym e)
 
 -- ── how many answers are left ──
 

@@ -3,6 +3,7 @@
 // it need not be made again. A file may hold 20,000 such rolls.
 ghost use Rattle.std.specs.Prelude.{◌≡◌, false, cond};
 ghost use Rattle.rules.specs.Sound.{not_sound};
+ghost use Rattle.playing_records.specs.Answers.{number_in, figure_in, refusal_in};
 ghost use Rattle.playing_records.specs.Applying.{call_in, number_by, figure_by, bytes_by};
 ghost use Rattle.playing_records.specs.Again.{is_roll, is_run, leaves, Refuses};
 

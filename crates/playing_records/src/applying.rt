@@ -4,6 +4,8 @@ ghost use Rattle.std.specs.Prelude.{◌≡◌, false, ◌++◌, ◌+◌, ◌≤�
 ghost use Rattle.fields.specs.Field.{stored, digits};
 ghost use Rattle.rules.specs.Sound.{not_sound};
 ghost use Rattle.rules.specs.Calls.{number_of_run, figure_of_run};
+ghost use Rattle.rules.specs.Refusals.{answered, numbered};
+ghost use Rattle.playing_records.specs.Answers.{number_in, figure_in};
 ghost use Rattle.playing_records.specs.Applying.{call_in, number_by, figure_by, bytes_by};
 
 use book::BookBytes;
@@ -21,6 +23,28 @@ pub enum Answer {
     Accepted(Quantity),
     Refused(Refusal),
     Unreadable(u64),
+}
+
+impl Answer {
+    fn number(self) -> u8
+        ensures { result ≡ number_in self }
+    {
+        match self {
+            Answer::Accepted(_) => 0,
+            Answer::Refused(r) => u8::from(r),
+            Answer::Unreadable(_) => 19,
+        }
+    }
+
+    fn figure(self) -> u64
+        ensures { result ≡ figure_in self }
+    {
+        match self {
+            Answer::Accepted(moved) => moved.0,
+            Answer::Refused(_) => 0,
+            Answer::Unreadable(place) => place,
+        }
+    }
 }
 
 // Only a run has a figure.
@@ -43,21 +67,25 @@ fn of_run(answer: Result<Shares, Refusal>) -> Answer
 }
 
 // A create stands first and only there: it makes a book and is no call on one, so that it is unreadable here.
+#[tactic(auto, using(crate::specs::Applying::figure_none, crate::specs::Applying::ran_figure, laws::specs::EnumAnswers::run_number), unfolding(crate::specs::Applying::call_in, crate::specs::Applying::number_by, crate::specs::Applying::figure_by, crate::specs::Applying::bytes_by, rules::specs::Calls::figure))]
 pub fn apply(book: &mut BookBytes, found: Option<Read>, place: u64) -> Answer
     requires { not_sound book.old ≡ false }
     ensures { (number_in result ≡ number_by book.old (call_in found))
         × (figure_in result ≡ figure_by book.old place (call_in found))
         × (book.new ≡ bytes_by book.old (call_in found)) }
 {
+    let Some(found) = found else {
+        return Answer::Unreadable(place);
+    };
     match found {
-        Some(Read::Enter(t)) => plain(enter(book, t)),
-        Some(Read::Amend(t)) => plain(amend(book, t)),
-        Some(Read::Exclude(n)) => plain(exclude(book, n)),
-        Some(Read::Roll) => plain(roll(book)),
-        Some(Read::Deposit(a, s, q)) => plain(deposit(book, a, s, q)),
-        Some(Read::Withdraw(a, s, q)) => plain(withdraw(book, a, s, q)),
-        Some(Read::Run(s)) => of_run(run(book, s)),
-        Some(Read::Create) | None => Answer::Unreadable(place),
+        Read::Create => Answer::Unreadable(place),
+        Read::Enter(t) => plain(enter(book, t)),
+        Read::Amend(t) => plain(amend(book, t)),
+        Read::Exclude(n) => plain(exclude(book, n)),
+        Read::Roll => plain(roll(book)),
+        Read::Deposit(a, s, q) => plain(deposit(book, a, s, q)),
+        Read::Withdraw(a, s, q) => plain(withdraw(book, a, s, q)),
+        Read::Run(s) => of_run(run(book, s)),
     }
 }
 
@@ -66,11 +94,6 @@ pub fn put_answer(answers: &mut [u8], at: usize, answer: Answer)
     requires { at + 9 ≤ length answers.old }
     ensures { answers.new ≡ stored answers.old at (digits 1 (number_in answer) ++ digits 8 (figure_in answer)) }
 {
-    let (number, figure) = match answer {
-        Answer::Accepted(moved) => (0, moved.0),
-        Answer::Refused(r) => (u8::from(r), 0),
-        Answer::Unreadable(place) => (19, place),
-    };
-    put(answers, at, 1, number as u64);
-    put(answers, at + 1, 8, figure);
+    put(answers, at, 1, u64::from(answer.number()));
+    put(answers, at + 1, 8, answer.figure());
 }

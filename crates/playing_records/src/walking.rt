@@ -4,7 +4,7 @@ ghost use Rattle.rules.specs.Records.{record_at};
 ghost use Rattle.rules.specs.CallFile.{file_of};
 ghost use Rattle.callfile_format.specs.Bodies.{codes_at};
 ghost use Rattle.callfile_format.specs.Reading.{says};
-ghost use Rattle.playing_records.specs.Steps.{is_none, next_in};
+ghost use Rattle.playing_records.specs.Steps.{next_in};
 
 use callfile_format::{Read, other_version, record_at};
 use fields::get;
@@ -15,11 +15,10 @@ pub fn next_place(file: &[u8], place: usize, found: Option<Read>) -> usize
     ensures { (result ≡ next_in file.now place) × (result ≤ length file.now)
         × (place < length file.now → place < result) }
 {
-    if found.is_none() {
-        return file.len();
+    match found {
+        None => file.len(),
+        Some(_) => place + 2 + get(file, place, 2) as usize,
     }
-    let long = get(file, place, 2) as usize;
-    place + 2 + long
 }
 
 // How many answers a file gets: one for each of its records.

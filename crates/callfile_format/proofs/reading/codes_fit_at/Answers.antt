@@ -1,25 +1,21 @@
--- `callfile_format::reading::codes_fit_at` meets its contract. The loop's invariant: the codes before `i` pass. Assumes nothing.
-use native.Mathlib.Omega.{arith}
-use Rattle.callfile_format.specs.Bodies.{codes_none, codes_more, codes_fail, codes_done}
+-- `callfile_format::reading::codes_fit_at` meets its contract: `all` over the 32 bytes. Assumes nothing.
+use Rattle.std.proofs.Common.{◌≡◌, ℕ, ◌+◌, ◌-◌, List, ◌&&◌, take, drop, refl, ap, ◌∙◌, arith, rules, tests}
+use Rattle.std.specs.List.{list_all}
+use Rattle.std.proofs.lemmas.Iterator.{YieldsList-from_slice}
+use Rattle.std.proofs.lemmas.Iterator.Search.{all_from_yields_List}
+use Rattle.std.proofs.lemmas.List.Recursion.{same_from_clauses}
+use Rattle.rules.specs.Words.{all}
+use Rattle.rules.specs.Sound.{is_code}
 use Rattle.callfile_format.proofs.reading.codes_fit_at.Goals as goal
 
-pub loop-i-init : goal.loop-i-init
-loop-i-init c = let a = c.args in (omega arith, codes_none a.at a.file.now)
-
-pub returns-then-not-is_code : goal.returns-then-not-is_code
-returns-then-not-is_code c =
-    let l = c.loop-i in
-    let a = c.args in
-    codes_fail a.at a.file.now l.i _ (omega arith) (omega arith) c.is_code.ensures c.if-not-is_code.true
-
-pub loop-i-preserved : goal.loop-i-preserved
-loop-i-preserved c =
-    let l = c.loop-i in
-    let a = c.args in
-    (omega arith, codes_more a.at a.file.now l.i _ (omega arith) (omega arith) c.is_code.ensures c.if-not-is_code.false l.invariant.1)
+all_is : (l : List ℕ) → list_all is_code l ≡ all is_code l
+unfolding all
+all_is l = same_from_clauses (list_all is_code) (all is_code) (λ x b. is_code x && b) refl (λ _ _. refl) (λ _ _. refl) l
 
 pub returns : goal.returns
 returns c =
-    let l = c.loop-i in
-    let a = c.args in
-    codes_done a.at a.file.now l.i (omega arith) l.invariant.1
+    let at = c.args.at in
+    let l = drop at c.args.file.now in
+    let n : at + 32 - at ≡ 32 = omega arith in
+    all_from_yields_List is_code _ _ _ c.all.ensures.ran (YieldsList-from_slice _ cc) (λ x b q k. search (rules, tests))
+    ∙ all_is _ ∙ ap (λ (n : ℕ). all is_code (take n l)) n

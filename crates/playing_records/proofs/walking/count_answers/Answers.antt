@@ -1,6 +1,5 @@
 -- `playing_records::walking::count_answers` meets its contract: the answers counted and those of what is left are all. Assumes nothing.
-use mathlib.Core.Path.{sym, ◌∙◌}
-use native.Mathlib.Omega.{arith}
+use Rattle.std.proofs.Common.{sym, ◌∙◌, arith}
 use Rattle.playing_records.specs.First.{version_there}
 use Rattle.playing_records.specs.Counting.{count_other, count_begins, count_more, count_done}
 use Rattle.playing_records.proofs.walking.count_answers.Goals as goal

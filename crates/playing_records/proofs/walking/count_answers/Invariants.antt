@@ -1,6 +1,5 @@
 -- `playing_records::walking::count_answers` meets its contract: the answers counted and those of what is left are all. Assumes nothing.
-use Prim.Native.Nat.{◌-◌}
-use lib.ListN.{length}
+use Rattle.std.proofs.Common.{◌-◌, length}
 use Rattle.playing_records.specs.Counting.{Counting}
 use Rattle.playing_records.proofs.walking.count_answers.Given as goal
 

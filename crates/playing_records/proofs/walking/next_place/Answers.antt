@@ -1,39 +1,34 @@
 -- `playing_records::walking::next_place` meets its contract: behind an unreadable record, behind a readable one. Assumes nothing.
-use Rattle.std.proofs.Common.{◌≡◌, sym, ap, ◌∙◌, Bool, List, ℕ, arith}
+use Rattle.std.proofs.Common.{◌≡◌, Option, is_none, sym, ap, ◌∙◌, Bool, List, ℕ, arith}
 use Rattle.rules.specs.Records.{record_at}
 use Rattle.rules.specs.CallFile.{is_unreadable}
 use Rattle.callfile_format.specs.Bodies.{codes_at}
 use Rattle.callfile_format.specs.Reading.{says}
 use Rattle.callfile_format.specs.declared.Read.{Read}
-use Rattle.playing_records.specs.Steps.{is_none, none_says, readable_fits, next_end, next_more, next_is}
+use Rattle.playing_records.specs.Steps.{none_says, readable_fits, next_end, next_more, next_is}
 use Rattle.playing_records.proofs.walking.next_place.Goals as goal
 
 -- what stands at the place can be read, or not
-readable : (file : List ℕ) (place : ℕ) (found : Read) (none v : Bool) → none ≡ is_none found
-    → says found (codes_at place file) ≡ record_at file place → none ≡ v → is_unreadable (record_at file place) ≡ v
-readable file place found none v e f g = sym (e ∙ none_says _ _ ∙ ap is_unreadable f) ∙ g
+readable : (file : List ℕ) (place : ℕ) (found : Option Read) (v : Bool)
+    → says found (codes_at place file) ≡ record_at file place → is_none found ≡ v → is_unreadable (record_at file place) ≡ v
+readable file place found v f g = sym (none_says found _ ∙ ap is_unreadable f) ∙ g
 
-pub returns-then-is_none : goal.returns-then-is_none
-returns-then-is_none c =
+pub returns-in-None : goal.returns-in-None
+returns-in-None c =
     let f = c.args.file.now in
     let p = c.args.place in
-    (next_end f p (readable f p _ _ _ c.is_none.ensures c.requires.1 c.if-is_none.true), omega arith, λ h. h)
+    (next_end f p (readable f p _ _ c.requires.1 (ap is_none c.in-None.is)), omega arith, λ h. h)
 
-pub get-long-requires : goal.get-long-requires
-get-long-requires c =
+pub get-requires : goal.get-requires
+get-requires c =
     let f = c.args.file.now in
     let p = c.args.place in
-    omega (arith, readable_fits f p (readable f p _ _ _ c.is_none.ensures c.requires.1 c.if-is_none.false))
+    (omega arith, omega (arith, readable_fits f p (readable f p _ _ c.requires.1 (ap is_none c.in-Some.is))))
 
-pub overflow_add-result : goal.overflow_add-result
-overflow_add-result c =
+pub returns-in-Some : goal.returns-in-Some
+returns-in-Some c =
     let f = c.args.file.now in
     let p = c.args.place in
-    omega (arith, readable_fits f p (readable f p _ _ _ c.is_none.ensures c.requires.1 c.if-is_none.false), next_is f p c.get-long.result c.get-long.ensures.0)
-
-pub returns : goal.returns
-returns c =
-    let f = c.args.file.now in
-    let p = c.args.place in
-    let l = next_is f p c.get-long.result c.get-long.ensures.0 in
-    (next_more f p (readable f p _ _ _ c.is_none.ensures c.requires.1 c.if-is_none.false) _ l, omega (arith, readable_fits f p (readable f p _ _ _ c.is_none.ensures c.requires.1 c.if-is_none.false), l), λ h. omega arith)
+    let e = readable f p _ _ c.requires.1 (ap is_none c.in-Some.is) in
+    let l = next_is f p c.get.result c.get.ensures.0 in
+    (next_more f p e _ l, omega (arith, readable_fits f p e, l), λ h. omega arith)
