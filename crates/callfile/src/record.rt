@@ -2,6 +2,7 @@
 // call).
 ghost use Rattle.std.specs.Prelude.{◌≡◌, ◌+◌, pos};
 ghost use Rattle.units.specs.Units.{shares};
+ghost use Rattle.rules.specs.Refusals.{answered, numbered};
 ghost use Rattle.rules.specs.Records.{record_at, record_answer, record_bytes, number_of_record, figure_of_record, next_of_record, record_number, record_figure, record_next};
 ghost use Rattle.rules.specs.declared.RecordAnswer.TheVariants.{Answered};
 ghost use Rattle.callfile_format.specs.Bodies.{codes_at};

@@ -1,6 +1,7 @@
 // Entry, amendment and exclusion of trades (document 01, "From trades to positions"; refusals 2 to 9). The list alone is
 // read and written.
 ghost use Rattle.std.specs.Prelude.{◌≡◌, false};
+ghost use Rattle.rules.specs.Refusals.{answered};
 ghost use Rattle.rules.specs.Sound.{not_sound};
 ghost use Rattle.rules.specs.Calls.{enter, amend, exclude, answer_bytes, after_bytes};
 

@@ -1,6 +1,7 @@
 // Deposits and withdrawals (document 01, "Refusal numbers": 2, 3, 4, and 12 or 11). The one holding that changes is
 // read and written where it stands.
 ghost use Rattle.std.specs.Prelude.{◌≡◌, true, false, length};
+ghost use Rattle.rules.specs.Refusals.{answered};
 ghost use Rattle.rules.specs.Layout.{book_length, book_of};
 ghost use Rattle.rules.specs.Sound.{sound, not_sound};
 ghost use Rattle.rules.specs.Calls.{deposit, withdraw, bad_deposit, answer_sound, answer_bytes, after_bytes};

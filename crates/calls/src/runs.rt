@@ -1,6 +1,7 @@
 // The settlement run (document 01, "Settlement run"; refusals 3 and 13), where the bytes stand. The answer is the shares
 // moved, 0 included: where nothing can be given, no byte is written.
 ghost use Rattle.std.specs.Prelude.{◌≡◌, false};
+ghost use Rattle.rules.specs.Refusals.{numbered};
 ghost use Rattle.rules.specs.Sound.{not_sound};
 ghost use Rattle.rules.specs.Calls.{run, run_answer, after_bytes};
 

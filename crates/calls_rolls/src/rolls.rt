@@ -1,5 +1,6 @@
 // The day roll (document 01, "From trades to positions"; refusals 10 and 14).
 ghost use Rattle.std.specs.Prelude.{◌≡◌, false};
+ghost use Rattle.rules.specs.Refusals.{answered};
 ghost use Rattle.rules.specs.Sound.{not_sound};
 ghost use Rattle.rules.specs.Calls.{roll, answer_bytes, after_bytes};
 

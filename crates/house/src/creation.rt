@@ -1,5 +1,6 @@
 // Creation of a book (document 01, "What the book covers"; refusals 18 and 3).
 ghost use Rattle.std.specs.Prelude.{◌≡◌, length};
+ghost use Rattle.rules.specs.Refusals.{answered};
 ghost use Rattle.rules.specs.Bounds.{securities};
 ghost use Rattle.rules.specs.Book.{empty_book};
 ghost use Rattle.rules.specs.Calls.{create_answer, create_bytes};

@@ -1,5 +1,6 @@
 // "Today's nets become positions due in two days": the position table with the nets behind the open positions.
-ghost use Rattle.std.specs.Prelude.{◌≡◌, true, length};
+ghost use Rattle.std.specs.Prelude.{◌≡◌, true, length, MatchResult};
+ghost use Rattle.rules.specs.Refusals.{number_of};
 ghost use Rattle.rules.specs.Layout.{book_length, book_of};
 ghost use Rattle.rules.specs.Sound.{sound, is_position};
 ghost use Rattle.netting.specs.Filling.{WithNets};

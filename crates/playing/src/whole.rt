@@ -2,6 +2,7 @@
 // create at its front makes. Soundness is not tested: the create makes a sound book, and every call keeps it.
 ghost use Rattle.std.specs.Prelude.{◌≡◌, ◌≤◌, length};
 ghost use Rattle.fields.specs.Field.{stored};
+ghost use Rattle.rules.specs.Refusals.{answered, value_or};
 ghost use Rattle.rules.specs.Layout.{book_length, book_of, bytes_of};
 ghost use Rattle.rules.specs.CallFile.{file_of, answers_of, bytes_left, whole_answer, whole_size, whole_answers, whole_bytes};
 ghost use Rattle.history.specs.Histories.{made};

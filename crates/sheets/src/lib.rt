@@ -3,6 +3,7 @@
 #![tactic(auto)]
 
 ghost use Rattle.std.specs.Prelude.{◌≡◌, cond, ◌++◌, ◌≤◌, length, drop};
+ghost use Rattle.rules.specs.Refusals.{answered, value_or};
 ghost use Rattle.rules.specs.Words.{each};
 ghost use Rattle.rules.specs.Bounds.{most_file};
 ghost use Rattle.rules.specs.Layout.{book_length, bytes_of};

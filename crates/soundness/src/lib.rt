@@ -3,7 +3,8 @@
 // earlier ones have shown.
 #![tactic(auto)]
 
-ghost use Rattle.std.specs.Prelude.{◌≡◌, length};
+ghost use Rattle.std.specs.Borrow.{sem, LendsIf, Array, u8 as byte};
+ghost use Rattle.std.specs.Prelude.{◌≡◌, length, MatchOption, true, false};
 ghost use Rattle.rules.specs.Layout.{book_length, book_of};
 ghost use Rattle.rules.specs.Sound.{sound, not_sound};
 ghost use Rattle.soundness.specs.Clauses.{positions_fit};

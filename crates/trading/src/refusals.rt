@@ -1,6 +1,7 @@
 // Whether a sound book in bytes takes an entry, an amendment, an exclusion (document 01, "Refusal numbers"): it is refused by
 // the first test that holds. Checks go by ascending number; 1 is checked before all of these.
 ghost use Rattle.std.specs.Prelude.{◌≡◌, [], ◌≤◌, length};
+ghost use Rattle.rules.specs.Refusals.{answered};
 ghost use Rattle.rules.specs.Words.{first};
 ghost use Rattle.rules.specs.Bounds.{most_trades};
 ghost use Rattle.rules.specs.Layout.{book_length, book_of};
