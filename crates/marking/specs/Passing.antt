@@ -1,7 +1,6 @@
 -- The tests of marks: what is known of the terms when 2, 18, 5 and 15 are passed, and how 17 and 16 follow them.
 use Rattle.std.specs.Prelude.{◌≡◌, refl, Bool, true, false, not, cond, ◌||◌, List, [], ◌∷◌, ℕ, ◌≤◌, eqb, ltb, length, get_or}
-use Rattle.std.proofs.Common.{◌∙◌, arith, eq-eqb, ne_eqb, eqb-true, ltb-false}
-use Rattle.std.proofs.Math.Bool.{or_assoc}
+use Rattle.std.proofs.Common.{sym, ap, ◌∙◌, arith, eq-eqb, ne_eqb, eqb-true, ltb-false}
 use Rattle.std.proofs.lemmas.Bool.{not-false}
 use Rattle.units.specs.Units.{top_rate, whole_haircut}
 use Rattle.rules.specs.Words.{any, above, outside, Test, first}
@@ -9,7 +8,7 @@ use Rattle.rules.specs.Bounds.{last_account}
 use Rattle.rules.specs.Trades.{no_account}
 use Rattle.rules.specs.Prices.{wrong_table, entry_above}
 use Rattle.rules.specs.Marks.{Terms, terms, rate_of, haircut_of, wrong_terms, bad_rates}
-use Rattle.laws.specs.Cases.{neither}
+use Rattle.laws.specs.Cases.{or_left, or_right, neither}
 use Rattle.laws.specs.Accepted.{passed}
 use Rattle.marking_prices.specs.Looking.{fails_at}
 use Rattle.marking_prices.specs.Pricing.{Tables, tables_right, Fair}
@@ -29,18 +28,23 @@ bad_rated t = refl
 four : (l : List ℕ) → not (eqb (length l) 4) ≡ false → length l ≡ 4
 four l e = eqb-true (length l) 4 (not-false _ e)
 
--- the two tables, and then the two others
-pub wrong_split : (t : Terms)
-    → (wrong_table t.intraday || wrong_table t.closing) || (not (eqb (length t.rates) 4) || not (eqb (length t.haircuts) 4)) ≡ wrong_terms t
-unfolding wrong_terms
-wrong_split t = or_assoc (wrong_table t.intraday) (wrong_table t.closing) _
+-- one of the two others has not
+module _ (t : Terms) where
+  pub wrong_rates : (length t.rates ≡ 4 → ⊥) → wrong_terms t ≡ true
+  unfolding wrong_terms
+  wrong_rates h = or_right (wrong_table t.intraday) (or_right (wrong_table t.closing) (or_left _ (ap not (ne_eqb (length t.rates) 4 h))))
 
-pub record Lengths (t : Terms) : Type 0 where
+  pub wrong_haircuts : (length t.haircuts ≡ 4 → ⊥) → wrong_terms t ≡ true
+  unfolding wrong_terms
+  wrong_haircuts h =
+      or_right (wrong_table t.intraday) (or_right (wrong_table t.closing) (or_right (not (eqb (length t.rates) 4)) (ap not (ne_eqb (length t.haircuts) 4 h))))
+
+record Lengths (t : Terms) : Type 0 where
   pub tables : Tables t.intraday t.closing
   pub rates : length t.rates ≡ 4
   pub haircuts : length t.haircuts ≡ 4
 
-pub lengths_right : (t : Terms) → wrong_terms t ≡ false → Lengths t
+lengths_right : (t : Terms) → wrong_terms t ≡ false → Lengths t
 unfolding wrong_terms
 lengths_right t e =
     let a = neither (wrong_table t.intraday) _ e in
@@ -85,6 +89,10 @@ all_passed a t e =
       fair = record { tables = w.tables; first = n.0; second = n.1 };
       rates = fine_rates t w s.0;
     }
+
+-- the same terms, told otherwise
+pub same_fine : (a : ℕ) (t u : Terms) → t ≡ u → 0 ≡ first (terms_tests a u []) → first (terms_tests a t []) ≡ 0
+same_fine a t u e f = ap (λ (x : Terms). first (terms_tests a x [])) e ∙ sym f
 
 -- ── the tests behind them ──
 

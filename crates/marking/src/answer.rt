@@ -1,8 +1,8 @@
 // "Due: unfavourable total less favourable total, or 0. The answer has the due and four signed sums." 16: either
 // converted total passes 9*10^18.
-ghost use Rattle.std.specs.Prelude.{◌≡◌, true, ◌||◌, ◌-◌, ◌≤◌, length};
+ghost use Rattle.std.specs.Prelude.{◌≡◌, true, ◌-◌, ◌≤◌};
 ghost use Rattle.exact.specs.MulDiv.{limit};
-ghost use Rattle.rules.specs.Layout.{book_length, book_of};
+ghost use Rattle.rules.specs.Layout.{book_of};
 ghost use Rattle.rules.specs.Sound.{sound};
 ghost use Rattle.rules.specs.Marks.{terms};
 ghost use Rattle.marking.specs.SoundMarks.{marks_sound};
@@ -36,7 +36,7 @@ fn due_of(t: PerCurrency, up: Amount, down: Amount) -> Marks
 }
 
 // The totals are asked, not the due: a due can be within the limit though a total is not.
-fn answer_of(t: PerCurrency, rates: &[u32], haircuts: &[u32]) -> Result<Marks, Refusal>
+fn answer_of(t: PerCurrency, rates: &[u32; 4], haircuts: &[u32; 4]) -> Result<Marks, Refusal>
     requires { Rates rates.now haircuts.now }
     ensures { numbered result ≡ answer_of t.sums rates.now haircuts.now }
 {
@@ -58,11 +58,11 @@ pub fn marks_of(
     requires { sound (book_of book.now) ≡ true }
     ensures { numbered result ≡ marks_sound (book_of book.now) account (terms intraday.now closing.now rates.now haircuts.now) }
 {
-    terms_fit(account, intraday, closing, rates, haircuts)?;
+    let terms = terms_fit(account, intraday, closing, rates, haircuts)?;
     let own = account as usize;
-    if has_unpriced(book, own, intraday, closing) {
+    if has_unpriced(book, own, terms.tables) {
         return Err(Refusal::NoPrice);
     }
-    let t = sums_of(book, own, intraday, closing);
-    answer_of(t, rates, haircuts)
+    let sums = sums_of(book, own, terms.tables);
+    answer_of(sums, terms.rates, terms.haircuts)
 }

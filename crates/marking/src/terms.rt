@@ -1,6 +1,6 @@
 // 2, 18, 5 and 15 of marks, in this order: what is asked of the account, of the two price tables, and of the rates and
 // haircuts, whatever the book.
-ghost use Rattle.std.specs.Prelude.{◌≡◌, [], length};
+ghost use Rattle.std.specs.Prelude.{◌≡◌, true, false, [], MatchOption, IfOk};
 ghost use Rattle.units.specs.Units.{top_rate, whole_haircut};
 ghost use Rattle.rules.specs.Refusals.{answered};
 ghost use Rattle.rules.specs.Words.{any, above, outside, first};
@@ -8,7 +8,7 @@ ghost use Rattle.rules.specs.Marks.{terms, wrong_terms, bad_rates};
 ghost use Rattle.marking.specs.SoundMarks.{terms_tests};
 ghost use Rattle.marking.specs.Passing.{rated};
 
-use marking_prices::{prices_above, wrong_tables};
+use marking_prices::{PriceTables, prices_above, tables_of};
 use rules::Refusal;
 
 const LAST_ACCOUNT: u8 = 63;
@@ -32,39 +32,66 @@ fn haircut_above(haircuts: &[u32]) -> bool
 }
 
 // All four currencies; the base has rate 1,000,000 and haircut 0.
-fn bad_rates(rates: &[u32], haircuts: &[u32]) -> bool
-    requires { (length rates.now ≡ 4) × (length haircuts.now ≡ 4) }
+fn bad_rates(rates: &[u32; 4], haircuts: &[u32; 4]) -> bool
     ensures { result ≡ bad_rates (rated rates.now haircuts.now) }
 {
     rate_outside(rates) || haircut_above(haircuts) || rates[0] != 1_000_000 || haircuts[0] != 0
 }
 
-fn wrong_terms(intraday: &[u8], closing: &[u8], rates: &[u32], haircuts: &[u32]) -> bool
-    ensures { result ≡ wrong_terms (terms intraday.now closing.now rates.now haircuts.now) }
-{
-    wrong_tables(intraday, closing) || rates.len() != 4 || haircuts.len() != 4
+// The price tables, and a rate and a haircut for each currency.
+#[derive(Clone, Copy)]
+pub struct MarkTerms<'a> {
+    pub tables: PriceTables<'a>,
+    pub rates: &'a [u32; 4],
+    pub haircuts: &'a [u32; 4],
 }
 
-pub fn terms_fit(
+// As they are lent; none where one of the four has the wrong length (18).
+fn terms_of<'a>(
+    intraday: &'a [u8],
+    closing: &'a [u8],
+    rates: &'a [u32],
+    haircuts: &'a [u32],
+) -> Option<MarkTerms<'a>>
+    ensures { MatchOption result (wrong_terms (terms intraday.now closing.now rates.now haircuts.now) ≡ true)
+        (λ t. (wrong_terms (terms intraday.now closing.now rates.now haircuts.now) ≡ false)
+        × (terms t.tables.intraday.now t.tables.closing.now t.rates.now t.haircuts.now ≡ terms intraday.now closing.now rates.now haircuts.now)) }
+{
+    let Some(tables) = tables_of(intraday, closing) else {
+        return None;
+    };
+    let Some(rates) = rates.as_array() else {
+        return None;
+    };
+    let Some(haircuts) = haircuts.as_array() else {
+        return None;
+    };
+    Some(MarkTerms {
+        tables,
+        rates,
+        haircuts,
+    })
+}
+
+pub fn terms_fit<'a>(
     account: u8,
-    intraday: &[u8],
-    closing: &[u8],
-    rates: &[u32],
-    haircuts: &[u32],
-) -> Result<(), Refusal>
-    ensures { answered result ≡ first (terms_tests account (terms intraday.now closing.now rates.now haircuts.now) []) }
+    intraday: &'a [u8],
+    closing: &'a [u8],
+    rates: &'a [u32],
+    haircuts: &'a [u32],
+) -> Result<MarkTerms<'a>, Refusal>
+    ensures number { answered result ≡ first (terms_tests account (terms intraday.now closing.now rates.now haircuts.now) []) }
+    ensures lent { IfOk result (λ t. terms t.tables.intraday.now t.tables.closing.now t.rates.now t.haircuts.now ≡ terms intraday.now closing.now rates.now haircuts.now) }
 {
     if account > LAST_ACCOUNT {
         return Err(Refusal::Account);
     }
-    if wrong_terms(intraday, closing, rates, haircuts) {
-        return Err(Refusal::Length);
-    }
-    if prices_above(intraday, closing) {
+    let terms = terms_of(intraday, closing, rates, haircuts).ok_or(Refusal::Length)?;
+    if prices_above(terms.tables) {
         return Err(Refusal::Price);
     }
-    if bad_rates(rates, haircuts) {
+    if bad_rates(terms.rates, terms.haircuts) {
         return Err(Refusal::Rates);
     }
-    Ok(())
+    Ok(terms)
 }

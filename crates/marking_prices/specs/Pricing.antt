@@ -1,5 +1,5 @@
 -- The price question: what is known of two tables of the right length, and of a question that is not refused.
-use Rattle.std.specs.Prelude.{◌≡◌, Bool, false, ◌||◌, List, [], ℕ, ◌+◌, ◌*◌, ◌-◌, ◌<◌, ◌≤◌, length, take, drop}
+use Rattle.std.specs.Prelude.{◌≡◌, Bool, true, false, ◌||◌, List, [], ℕ, ◌+◌, ◌*◌, ◌-◌, ◌<◌, ◌≤◌, length, take, drop}
 use Rattle.std.proofs.Math.Path.{sym, ap}
 use Rattle.std.proofs.Common.{◌∙◌}
 use native.Mathlib.Omega.{arith}
@@ -33,6 +33,10 @@ pub record Tables (intraday closing : List ℕ) : Type 0 where
 table_length : (table : List ℕ) → wrong_table table ≡ false → length table ≡ 128
 unfolding wrong_table
 table_length table e = eqb-true (length table) 128 (not-false _ e)
+
+pub wrong_length : (table : List ℕ) → (length table ≡ 128 → ⊥) → wrong_table table ≡ true
+unfolding wrong_table
+wrong_length table h = rw (ne_eqb (length table) 128 h)
 
 pub tables_right : (a b : List ℕ) → wrong_table a || wrong_table b ≡ false → Tables a b
 tables_right a b e =

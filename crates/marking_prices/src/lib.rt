@@ -3,4 +3,4 @@
 
 mod prices;
 
-pub use prices::{price, price_of, prices_above, wrong_tables};
+pub use prices::{PriceTables, price, price_of, prices_above, tables_of};

@@ -49,7 +49,12 @@ fn converted(side: Side, sum: Mils, rate: u64, haircut: u64) -> Option<u64>
     }
 }
 
-pub fn converted_total(side: Side, t: PerCurrency, rates: &[u32], haircuts: &[u32]) -> Option<u64>
+pub fn converted_total(
+    side: Side,
+    t: PerCurrency,
+    rates: &[u32; 4],
+    haircuts: &[u32; 4],
+) -> Option<u64>
     requires { Rates rates.now haircuts.now }
     ensures { result ≡ capped (converted_sum side t.sums rates.now haircuts.now) }
 {

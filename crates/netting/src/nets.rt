@@ -3,7 +3,7 @@ ghost use Rattle.std.specs.Prelude.{◌≡◌, true, length, MatchResult};
 ghost use Rattle.rules.specs.Refusals.{number_of};
 ghost use Rattle.rules.specs.Layout.{book_length, book_of};
 ghost use Rattle.rules.specs.Sound.{sound, is_position};
-ghost use Rattle.netting.specs.Filling.{WithNets};
+ghost use Rattle.netting.specs.Filling.{WithNets, PastRoom};
 
 use crate::Netted;
 use book::{BookBytes, day_at, entries_at, positions_of, records_at, trades_of};

@@ -8,6 +8,7 @@ ghost use Rattle.rules.specs.Roll.{open_plus_nets};
 ghost use Rattle.laws.specs.Rolling.{rolling};
 ghost use Rattle.book.specs.Replacing.{with_rows};
 ghost use Rattle.netting.specs.Before.{Extends};
+ghost use Rattle.netting.specs.Filling.{WithNets};
 
 use crate::Netted;
 use book::{

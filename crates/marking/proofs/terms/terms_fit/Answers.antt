@@ -1,41 +1,35 @@
 -- `marking::terms::terms_fit` meets its contract: each return by the tests that were made so far. Assumes nothing.
-use Rattle.std.proofs.Common.{sym, ◌∙◌, arith}
+use Rattle.std.proofs.Common.{arith}
 use Rattle.std.proofs.lemmas.Grind.{common_steps}
 use Rattle.rules.specs.Words.{first}
 use Rattle.rules.specs.Trades.{no_account}
 use Rattle.rules.specs.Marks.{terms}
 use Rattle.marking.specs.SoundMarks.{terms_tests}
-use Rattle.marking.specs.Passing.{lengths_right, bad_rated}
+use Rattle.marking.specs.Passing.{bad_rated}
 use Rattle.marking.proofs.terms.terms_fit.Goals as goal
 
-pub returns-then-account-gt-LAST_ACCOUNT : goal.returns-then-account-gt-LAST_ACCOUNT
+pub returns-then-account-gt-LAST_ACCOUNT-clause-number : goal.returns-then-account-gt-LAST_ACCOUNT-clause-number
 unfolding terms_tests no_account first
-returns-then-account-gt-LAST_ACCOUNT c = grind (arith, common_steps)
+returns-then-account-gt-LAST_ACCOUNT-clause-number c = grind (arith, common_steps)
 
-pub returns-then-wrong_terms : goal.returns-then-wrong_terms
+pub returns-in_err-terms-clause-number : goal.returns-in_err-terms-clause-number
 unfolding terms_tests no_account first
-returns-then-wrong_terms c = grind (arith, common_steps)
+returns-in_err-terms-clause-number c = grind (arith, common_steps)
 
-pub prices_above-requires : goal.prices_above-requires
-prices_above-requires c = (lengths_right _ (sym c.wrong_terms.ensures ∙ c.if-wrong_terms.false)).tables
-
-pub returns-then-prices_above : goal.returns-then-prices_above
+pub returns-then-prices_above-clause-number : goal.returns-then-prices_above-clause-number
 unfolding terms_tests no_account first
-returns-then-prices_above c = grind (arith, common_steps)
+returns-then-prices_above-clause-number c = grind (arith, common_steps)
 
-pub bad_rates-requires : goal.bad_rates-requires
-bad_rates-requires c = let w = lengths_right _ (sym c.wrong_terms.ensures ∙ c.if-wrong_terms.false) in (w.rates, w.haircuts)
-
-pub returns-then-bad_rates : goal.returns-then-bad_rates
+pub returns-then-bad_rates-clause-number : goal.returns-then-bad_rates-clause-number
 unfolding terms_tests no_account first
-returns-then-bad_rates c =
+returns-then-bad_rates-clause-number c =
     let a = c.args in
     let bad = bad_rated (terms a.intraday.now a.closing.now a.rates.now a.haircuts.now) in
     grind (arith, common_steps)
 
-pub returns : goal.returns
+pub returns-clause-number : goal.returns-clause-number
 unfolding terms_tests no_account first
-returns c =
+returns-clause-number c =
     let a = c.args in
     let bad = bad_rated (terms a.intraday.now a.closing.now a.rates.now a.haircuts.now) in
     grind (arith, common_steps)

@@ -21,26 +21,26 @@ all_seen k a m n = any_kept _ (λ p. eqb (account_of p) a) (open_of k)
 pub loop-i-init : goal.loop-i-init
 loop-i-init c =
     let a = c.args in
-    any_none (is_one a.account a.intraday.now a.closing.now) (open_of (book_of a.book.now))
+    any_none (is_one a.account a.tables.intraday.now a.tables.closing.now) (open_of (book_of a.book.now))
 
 pub returns-then-is_unpriced : goal.returns-then-is_unpriced
 unfolding open_of
 returns-then-is_unpriced c =
     let a = c.args in
     let k = book_of a.book.now in
-    let one = is_one a.account a.intraday.now a.closing.now in
-    let within : k.records ≤ length k.positions = omega (arith, c.requires.0, positions_long a.book.now) in
+    let one = is_one a.account a.tables.intraday.now a.tables.closing.now in
+    let within : k.records ≤ length k.positions = omega (arith, c.requires, positions_long a.book.now) in
     listed_found one k.positions k.records within c.loop-i.i no_position (omega (arith, c.records_at-n.ensures))
     (ap one (sym c.position_at-p.ensures) ∙ sym c.is_unpriced.ensures ∙ c.if-is_unpriced.true)
-    ∙ all_seen k a.account a.intraday.now a.closing.now
+    ∙ all_seen k a.account a.tables.intraday.now a.tables.closing.now
 
 pub loop-i-preserved : goal.loop-i-preserved
 unfolding open_of
 loop-i-preserved c =
     let a = c.args in
     let k = book_of a.book.now in
-    let one = is_one a.account a.intraday.now a.closing.now in
-    let within : k.records ≤ length k.positions = omega (arith, c.requires.0, positions_long a.book.now) in
+    let one = is_one a.account a.tables.intraday.now a.tables.closing.now in
+    let within : k.records ≤ length k.positions = omega (arith, c.requires, positions_long a.book.now) in
     listed_more one k.positions k.records within c.loop-i.i no_position (omega (arith, c.records_at-n.ensures)) c.loop-i.invariant
     (ap one (sym c.position_at-p.ensures) ∙ sym c.is_unpriced.ensures ∙ c.if-is_unpriced.false)
 
@@ -49,6 +49,6 @@ unfolding open_of
 returns c =
     let a = c.args in
     let k = book_of a.book.now in
-    let within : k.records ≤ length k.positions = omega (arith, c.requires.0, positions_long a.book.now) in
-    listed_done (is_one a.account a.intraday.now a.closing.now) k.positions k.records within c.loop-i.i (omega (arith, c.records_at-n.ensures)) c.loop-i.invariant
-    ∙ all_seen k a.account a.intraday.now a.closing.now
+    let within : k.records ≤ length k.positions = omega (arith, c.requires, positions_long a.book.now) in
+    listed_done (is_one a.account a.tables.intraday.now a.tables.closing.now) k.positions k.records within c.loop-i.i (omega (arith, c.records_at-n.ensures)) c.loop-i.invariant
+    ∙ all_seen k a.account a.tables.intraday.now a.tables.closing.now

@@ -12,4 +12,4 @@ abbrev pub is_one : ℕ → List ℕ → List ℕ → Position → Bool
 is_one a intraday closing p = eqb (account_of p) a && lacks_price (priced intraday closing) p
 
 abbrev pub invariant-loop-i : goal.invariant-loop-i
-invariant-loop-i l = any (is_one l.account l.intraday l.closing) (take l.i (open_of (book_of l.book))) ≡ false
+invariant-loop-i l = any (is_one l.account l.tables.intraday.now l.tables.closing.now) (take l.i (open_of (book_of l.book))) ≡ false

@@ -20,6 +20,6 @@ pub returns : goal.returns
 unfolding mark_at mark_of
 returns c =
     let a = c.args in
-    let e : mils_of c.minus.result ≡ quantity_of a.p *ℤ pos (price_of a.intraday.now a.closing.now (security_of a.p)) -ℤ money_of a.p =
+    let e : mils_of c.minus.result ≡ quantity_of a.p *ℤ pos (price_of a.tables.intraday.now a.tables.closing.now (security_of a.p)) -ℤ money_of a.p =
     cc (c.security_of.ensures.0, c.price_of-price.ensures, c.times.ensures.0, c.minus.ensures.0) in
-    (e, rw e (mark_small a.intraday.now a.closing.now a.p c.requires.0 c.requires.1))
+    (e, rw e (mark_small a.tables.intraday.now a.tables.closing.now a.p c.requires.0 c.requires.1))

@@ -18,13 +18,13 @@ with_record-t-requires c =
     let bs = c.args.book.now in
     let l = c.loop-i in
     rw (c.codes_of-codes.ensures, c.position_at-p.ensures)
-    (open_asks (book_of bs) c.requires.0 (codes_long bs) (positions_long bs) l.i (omega (arith, c.records_at-n.ensures)) c.args.intraday.now c.args.closing.now _ l.t c.requires.1 l.invariant)
+    (open_asks (book_of bs) c.requires.0 (codes_long bs) (positions_long bs) l.i (omega (arith, c.records_at-n.ensures)) c.args.tables.intraday.now c.args.tables.closing.now _ l.t c.requires.1 l.invariant)
 
 pub loop-i-preserved : goal.loop-i-preserved
 loop-i-preserved c =
     let bs = c.args.book.now in
     let l = c.loop-i in
-    open_more (book_of bs) c.requires.0 (codes_long bs) (positions_long bs) l.i (omega (arith, c.records_at-n.ensures)) c.args.intraday.now c.args.closing.now _ l.t c.requires.1 l.invariant
+    open_more (book_of bs) c.requires.0 (codes_long bs) (positions_long bs) l.i (omega (arith, c.records_at-n.ensures)) c.args.tables.intraday.now c.args.tables.closing.now _ l.t c.requires.1 l.invariant
     _ (rw (c.codes_of-codes.ensures, c.position_at-p.ensures) at c.with_record-t.ensures)
 
 pub returns : goal.returns
