@@ -2,8 +2,8 @@
 // falls due on the next day, so that nothing is netted and nothing offset. Charges are set to zero and the day goes up
 // by one. 10 cannot occur, for a sound book has at most 1,024 records.
 ghost use Rattle.std.specs.Prelude.{◌≡◌, true, false};
-ghost use Rattle.rules.specs.Refusals.{answered};
 ghost use Rattle.rules.specs.Layout.{book_of};
+ghost use Rattle.rules.specs.Refusals.{answered};
 ghost use Rattle.rules.specs.Sound.{not_sound};
 ghost use Rattle.rules.specs.Calls.{roll, answer_bytes, after_bytes};
 ghost use Rattle.laws.specs.QuietRoll.{is_quiet};

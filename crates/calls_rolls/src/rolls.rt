@@ -1,5 +1,6 @@
 // The day roll (document 01, "From trades to positions"; refusals 10 and 14).
 ghost use Rattle.std.specs.Prelude.{◌≡◌, false};
+ghost use Rattle.rules.specs.Layout.{book_of, bytes_of};
 ghost use Rattle.rules.specs.Refusals.{answered};
 ghost use Rattle.rules.specs.Sound.{not_sound};
 ghost use Rattle.rules.specs.Calls.{roll, answer_bytes, after_bytes};
@@ -10,6 +11,14 @@ use netting::{before_offset, with_nets};
 use offsetting::offset_due;
 use rules::Refusal;
 
+// Bytes are those of the book that they hold: of the bytes that a step left its contract may say only what book they hold.
+// (The call makes known that they are bytes.)
+fn read_back(b: &BookBytes)
+    ensures { b.now ≡ bytes_of (book_of b.now) }
+{
+    let _day = day_at(b);
+}
+
 // Every step: nets are made in a copy of the position table, all else where it stands. Right for a quiet day too, but many
 // times slower.
 fn full_roll(book: &mut BookBytes) -> Result<(), Refusal>
@@ -17,11 +26,13 @@ fn full_roll(book: &mut BookBytes) -> Result<(), Refusal>
     ensures { (answered result ≡ answer_bytes book.old roll) × (book.new ≡ after_bytes book.old roll) }
 {
     let netted = with_nets(book)?;
-    if day_at(book) == 60_000 {
+    let day = day_at(book);
+    if day == 60_000 {
         return Err(Refusal::LastDay);
     }
     before_offset(book, netted);
     offset_due(book);
+    read_back(book);
     Ok(())
 }
 

@@ -9,7 +9,7 @@ use Rattle.std.proofs.lemmas.List.{set_at}
 use Rattle.std.proofs.Math.Seq.{append_snoc, take-append-le, drop-append_seam, drop-append-add, take-take}
 use Rattle.rules.specs.Bounds.{most_records}
 use Rattle.rules.specs.Book.{no_position, open_of, with_open, with_list, with_charges, with_day}
-use Rattle.rules.specs.Layout.{book_length, book_of}
+use Rattle.rules.specs.Layout.{book_of}
 use Rattle.rules.specs.Sound.{sound}
 use Rattle.rules.specs.Roll.{uncharged, netted, emptied, next_day, open_plus_nets}
 use Rattle.rules.specs.declared.Position.{Position}
@@ -51,30 +51,26 @@ module _ (m : ℕ) (ps : List Position) (n : ℕ) (rows : List Position) (x : Ex
 
 -- ── the book while they are put in ──
 
-pub record Putting (k : Book) (rows : List Position) (b : List ℕ) (i : ℕ) : Type 0 where
-  pub long : length b ≡ book_length
-  pub holds : book_of b ≡ with_rows k k.records (joined rows k.positions i)
+abbrev pub Putting : Book → List Position → List ℕ → ℕ → Type 0
+Putting k rows b i = book_of b ≡ with_rows k k.records (joined rows k.positions i)
 
-module _ (k : Book) (n : ℕ) (rows : List Position) (x : Extends k.records k.positions n rows) (wide : length rows ≡ most_records) (size : length k.positions ≡ most_records) where
-  pub putting_none : (b : List ℕ) → length b ≡ book_length → book_of b ≡ k → Putting k rows b k.records
+module _ (k : Book) (n : ℕ) (rows : List Position) (x : Extends k.records k.positions n rows) where
+  pub putting_none : (b : List ℕ) → book_of b ≡ k → Putting k rows b k.records
   unfolding with_rows
-  putting_none b l e = record { long = l; holds = e ∙ ap (with_rows k k.records) (sym (joined_none k.records k.positions n rows x)) }
+  putting_none b e = e ∙ ap (with_rows k k.records) (sym (joined_none k.records k.positions n rows x))
 
-  pub putting_more : (b new : List ℕ) (i : ℕ) → i < most_records → Putting k rows b i → length new ≡ length b
+  pub putting_more : length rows ≡ most_records → length k.positions ≡ most_records → (b new : List ℕ) (i : ℕ) → i < most_records → Putting k rows b i
       → book_of new ≡ with_rows (book_of b) (book_of b).records (set (book_of b).positions i (get_or rows i no_position)) → Putting k rows new (i + 1)
   unfolding with_rows
-  putting_more b new i h p l e =
-      record {
-        long = l ∙ p.long;
-        holds = e
-            ∙ ap (λ (c : Book). with_rows c c.records (set c.positions i (get_or rows i no_position))) p.holds
-            ∙ ap (with_rows k k.records) (joined_more rows k.positions i (omega arith) (omega arith));
-      }
+  putting_more wide size b new i h p e =
+      e
+      ∙ ap (λ (c : Book). with_rows c c.records (set c.positions i (get_or rows i no_position))) p
+      ∙ ap (with_rows k k.records) (joined_more rows k.positions i (omega arith) (omega arith))
 
   pub putting_all : (b new : List ℕ) (i : ℕ) → i ≡ n → Putting k rows b i → book_of new ≡ with_rows (book_of b) n (book_of b).positions → book_of new ≡ with_rows k n rows
   unfolding with_rows
   putting_all b new i end p e =
-      e ∙ ap (λ (c : Book). with_rows c n c.positions) p.holds
+      e ∙ ap (λ (c : Book). with_rows c n c.positions) p
       ∙ ap (with_rows k n) (ap (joined rows k.positions) end ∙ joined_all k.records k.positions n rows x)
 
 -- ── the roll's ──

@@ -1,6 +1,6 @@
 -- The position table as today's nets are put behind the open positions, by account, then security. Behind the records it is zero, so the first
 -- free row is the one behind them.
-use Rattle.std.specs.Prelude.{◌≡◌, true, false, ℕ, zero, suc, ◌+◌, ◌-◌, ◌*◌, min, ◌<◌, ◌≤◌, set}
+use Rattle.std.specs.Prelude.{◌≡◌, true, false, ℕ, zero, suc, ◌+◌, ◌-◌, ◌*◌, ◌<◌, ◌≤◌, set}
 use Rattle.std.proofs.Math.Path.{refl, sym, ap, ap₂}
 use Rattle.std.proofs.Common.{subst, ◌∙◌, arith, take-append-drop}
 use mathlib.Core.List.{List, [], ◌∷◌, ◌++◌, append-nil, append_assoc}
@@ -97,28 +97,19 @@ module _ (due : ℕ) (ts : List Trade) (front : List Position) where
             ∙ ap (λ (l : List Position). l ++ rest)
             (append_assoc front (nets_to due ts i) (p ∷ []) ∙ ap (λ (l : List Position). front ++ l) (sym (more e)))
 
-  -- ── accounts that the list does not name ──
+  -- ── an account that the list does not name ──
 
-  filled_account : (a s count : ℕ) (rows : List Position) → a < 64 → s ≤ 32 → Apart a ts → Filled due ts front (a * 32) count rows
+  filled_some : (a s count : ℕ) (rows : List Position) → a < 64 → s ≤ 32 → Apart a ts → Filled due ts front (a * 32) count rows
       → Filled due ts front (a * 32 + s) count rows
-  filled_account a zero count rows ha hs e f = filled_at (a * 32) (a * 32 + 0) count rows (omega arith) f
-  filled_account a (suc s) count rows ha hs e f =
+  filled_some a zero count rows ha hs e f = filled_at (a * 32) (a * 32 + 0) count rows (omega arith) f
+  filled_some a (suc s) count rows ha hs e f =
       filled_at (a * 32 + (s + 1)) (a * 32 + suc s) count rows (omega arith)
-      (filled_same a s count rows ha (omega arith) (filled_account a s count rows ha (omega arith) e f) _ refl (apart_none due ts a s e))
+      (filled_same a s count rows ha (omega arith) (filled_some a s count rows ha (omega arith) e f) _ refl (apart_none due ts a s e))
 
-  filled_accounts : (a n count : ℕ) (rows : List Position) → a + n ≤ 64 → ((b : ℕ) → a ≤ b → b < a + n → Apart b ts) → Filled due ts front (a * 32) count rows
-      → Filled due ts front ((a + n) * 32) count rows
-  filled_accounts a zero count rows h e f = filled_at (a * 32) ((a + 0) * 32) count rows (omega arith) f
-  filled_accounts a (suc n) count rows h e f =
-      filled_at ((a + n) * 32 + 32) ((a + suc n) * 32) count rows (omega arith)
-      (filled_account (a + n) 32 count rows (omega arith) (omega arith) (e (a + n) (omega arith) (omega arith))
-      (filled_accounts a n count rows (omega arith) (λ b l r. e b l (omega arith)) f))
-
-  -- from one that has been looked at to the next that is named
-  pub filled_next : (a b count : ℕ) (rows : List Position) → a ≤ b → b ≤ 64 → ((c : ℕ) → a ≤ c → c < b → Apart c ts) → Filled due ts front (a * 32) count rows
-      → Filled due ts front (b * 32) count rows
-  filled_next a b count rows l h e f =
-      filled_at ((a + (b - a)) * 32) (b * 32) count rows (omega arith) (filled_accounts a (b - a) count rows (omega arith) (λ c m r. e c m (omega arith)) f)
+  pub filled_account : (a count : ℕ) (rows : List Position) → a < 64 → Apart a ts → Filled due ts front (a * 32) count rows
+      → Filled due ts front ((a + 1) * 32) count rows
+  filled_account a count rows h e f =
+      filled_at (a * 32 + 32) ((a + 1) * 32) count rows (omega arith) (filled_some a 32 count rows h (omega arith) e f)
 
 -- ── the table of a sound book, before the first pair and after the last ──
 

@@ -1,25 +1,21 @@
 // "Today's nets become positions due in two days": the position table with the nets behind the open positions.
-ghost use Rattle.std.specs.Prelude.{◌≡◌, true, length, MatchResult};
+ghost use Rattle.std.specs.Prelude.{◌≡◌, true, MatchResult};
+ghost use Rattle.rules.specs.Layout.{book_of};
 ghost use Rattle.rules.specs.Refusals.{number_of};
-ghost use Rattle.rules.specs.Layout.{book_length, book_of};
 ghost use Rattle.rules.specs.Sound.{sound, is_position};
 ghost use Rattle.netting.specs.Filling.{WithNets, PastRoom};
 
 use crate::Netted;
 use book::{BookBytes, day_at, entries_at, positions_of, records_at, trades_of};
-use netting_account::{account_nets, named_accounts, next_named};
+use netting_account::{account_nets, named_accounts};
 use rules::{Position, Refusal};
 
 // "A net of 0 shares with money is a position; 0 and 0 is none."
+#[tactic(auto, unfolding(rules::specs::Sound::is_position, rules::specs::Book::is_zero))]
 fn is_position(p: Position) -> bool
     ensures { result ≡ is_position p }
 {
-    let q = p.quantity;
-    if !q.is_zero() {
-        return true;
-    }
-    let m = p.money;
-    !m.is_zero()
+    !p.quantity.is_zero() || !p.money.is_zero()
 }
 
 // By account, then security: by ascending number, as the records stand. One walk of the list finds
@@ -31,30 +27,24 @@ pub fn with_nets(b: &BookBytes) -> Result<Netted, Refusal>
 {
     let trades = trades_of(b);
     let n = entries_at(b) as usize;
-    let due = (day_at(b) as u32) + 2;
+    let due = day_at(b) as u32 + 2;
     let mut positions = positions_of(b);
-    let mut count = records_at(b) as usize;
+    let mut count = records_at(b);
     let named = named_accounts(trades, n);
-    let mut account = next_named(named, 0);
-    while account < 64 {
-        let nets = account_nets(trades, n, due, account);
-        let mut s: usize = 0;
-        while s < 32 {
-            let net = nets.rows[s];
-            s += 1;
+    for account in 0..64u8 {
+        if !named[account as usize] {
+            continue;
+        }
+        for net in account_nets(trades, n, due, account) {
             if !is_position(net) {
                 continue;
             }
             if count == 1024 {
                 return Err(Refusal::TableFull);
             }
-            positions[count] = net;
+            positions[count as usize] = net;
             count += 1;
         }
-        account = next_named(named, account + 1);
     }
-    Ok(Netted {
-        count: count as u16,
-        positions,
-    })
+    Ok(Netted { count, positions })
 }

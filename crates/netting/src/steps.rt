@@ -1,14 +1,12 @@
 // The roll before its offsetting, where the bytes stand, in document 01's order: "charges are set to zero; today's nets become
 // positions due in two days; the list is emptied; the day goes up by one".
-ghost use Rattle.std.specs.Prelude.{◌≡◌, true, ◌≤◌, length};
-ghost use Rattle.rules.specs.Bounds.{most_records};
-ghost use Rattle.rules.specs.Layout.{book_length, book_of};
+ghost use Rattle.std.specs.Prelude.{◌≡◌, true};
+ghost use Rattle.rules.specs.Layout.{book_of};
 ghost use Rattle.rules.specs.Sound.{sound};
-ghost use Rattle.rules.specs.Roll.{open_plus_nets};
 ghost use Rattle.laws.specs.Rolling.{rolling};
 ghost use Rattle.book.specs.Replacing.{with_rows};
-ghost use Rattle.netting.specs.Before.{Extends};
 ghost use Rattle.netting.specs.Filling.{WithNets};
+ghost use Rattle.netting.specs.Before.{Extends};
 
 use crate::Netted;
 use book::{
@@ -20,12 +18,8 @@ fn put_nets(b: &mut BookBytes, t: Netted)
     requires { Extends (book_of b.old).records (book_of b.old).positions t.count t.positions }
     ensures { book_of b.new ≡ with_rows (book_of b.old) t.count t.positions }
 {
-    let n = t.count as usize;
-    let mut i = records_at(b) as usize;
-    while i < n {
-        let p = t.positions[i];
-        put_position(b, i, p);
-        i += 1;
+    for i in records_at(b) as usize..t.count as usize {
+        put_position(b, i, t.positions[i]);
     }
     put_records(b, t.count);
 }

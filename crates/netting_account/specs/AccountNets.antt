@@ -1,7 +1,7 @@
 -- An account's nets, a row for each security, in one walk over the list: a trade in which the account has a part is added to the row of its
 -- security.
 use Rattle.std.specs.Prelude.{◌≡◌, true, false, List, ℕ, ◌+◌, ◌<◌, ◌≤◌, eqb, length, get_or, take, drop, set}
-use Rattle.std.proofs.Common.{sym, ap, ◌∙◌, le_refl, arith, length-take, take-append-drop, get_or-set_same, get_or-set_other, get_or-take, length-take-le, take-take, eqb-true, ltb-true}
+use Rattle.std.proofs.Common.{sym, ap, ◌∙◌, arith, length-take, take-append-drop, get_or-set_same, get_or-set_other, eqb-true, ltb-true}
 use Rattle.std.proofs.lemmas.Bool.{eqb-false}
 use Rattle.units.specs.Units.{most_mils}
 use Rattle.rules.specs.Words.{all}
@@ -24,54 +24,37 @@ NetsBefore due ts a rows j = (s : ℕ) → s < j → get_or rows s no_position �
 abbrev pub Nets : ℕ → List Trade → ℕ → List Position → Type 0
 Nets due ts a rows = NetsBefore due ts a rows securities
 
--- one row more
-pub row_more : (due : ℕ) (ts : List Trade) (a : ℕ) (rows : List Position) (j : ℕ) (p : Position) → j < length rows → p ≡ net_of due ts a j
-    → NetsBefore due ts a rows j → NetsBefore due ts a (set rows j p) (j + 1)
-row_more due ts a rows j p h e m s k =
-    by_test (eqb s j)
-    (λ f. rw (eqb-true s j f) (get_or-set_same rows j p no_position h ∙ e))
-    (λ f. get_or-set_other rows j s p no_position (eqb-false s j f) ∙ m s (omega (arith, eqb-false s j f)))
+-- ── over the trades of a list: no trade yet, one more, all ──
 
--- ── over the first n trades of a table: no trade yet, one more, all ──
-
-module _ (due : ℕ) (l : List Trade) (n a : ℕ) where
+module _ (due : ℕ) (ts : List Trade) (a : ℕ) where
   -- the nets of the first i of them
   abbrev pub NetsTo : List Position → ℕ → Type 0
-  NetsTo rows i = Nets due (take i (take n l)) a rows
+  NetsTo rows i = Nets due (take i ts) a rows
 
-  pub nets_all : (rows : List Position) (i : ℕ) → i ≡ n → NetsTo rows i → Nets due (take n l) a rows
-  nets_all rows i e m s h = m s h ∙ ap (λ (j : ℕ). net_of due (take j (take n l)) a s) e ∙ ap (λ (ts : List Trade). net_of due ts a s) (take-take n n l (le_refl n))
-
-  module _ (i : ℕ) (h : i < n) (w : n ≤ length l) where
+  module _ (i : ℕ) (h : i < length ts) where
     abbrev here : Trade
-    here = get_or l i no_trade
+    here = get_or ts i no_trade
 
-    within : i < length (take n l)
-    within = omega (arith, length-take-le n l w)
+    pub limits_here : all in_limits ts ≡ true → in_limits here ≡ true
+    limits_here fit = all_at in_limits ts i no_trade fit h
 
-    read : get_or (take n l) i no_trade ≡ here
-    read = get_or-take n l i no_trade h
-
-    pub limits_here : all in_limits (take n l) ≡ true → in_limits here ≡ true
-    limits_here fit = rw read at (all_at in_limits (take n l) i no_trade fit within)
-
-    pub security_here : all in_securities (take n l) ≡ true → here.security < 32
-    security_here fit = ltb-true here.security securities (rw read at (all_at in_securities (take n l) i no_trade fit within))
+    pub security_here : all in_securities ts ≡ true → here.security < 32
+    security_here fit = ltb-true here.security securities (all_at in_securities ts i no_trade fit h)
 
     module _ (rows : List Position) (m : NetsTo rows i) where
       -- a trade in which the account has no part
       pub nets_same : has_part a here ≡ false → NetsTo rows (i + 1)
-      nets_same e s k = m s k ∙ sym (net_others due (take n l) a s i within (rw read e))
+      nets_same e s k = m s k ∙ sym (net_others due ts a s i h e)
 
       module _ (k : here.security < 32) where
         abbrev row : Position
         row = get_or rows here.security no_position
 
-        pub row_within : n ≤ most_trades → all in_limits (take n l) ≡ true → Within most_mils row
+        pub row_within : length ts ≤ most_trades → all in_limits ts ≡ true → Within most_mils row
         row_within few fit =
-            let us = take i (take n l) in
-            let fewer : length us ≤ most_trades = omega (arith, length-take i (take n l), length-take-le n l w) in
-            let each-fit : all in_limits us ≡ true = all_left in_limits us (drop i (take n l)) (ap (all in_limits) (take-append-drop i (take n l)) ∙ fit) in
+            let us = take i ts in
+            let fewer : length us ≤ most_trades = omega (arith, length-take i ts) in
+            let each-fit : all in_limits us ≡ true = all_left in_limits us (drop i ts) (ap (all in_limits) (take-append-drop i ts) ∙ fit) in
             rw (m here.security k) (omega (arith, shares_size due us fewer each-fit a here.security), money_size due us fewer each-fit a here.security)
 
         -- and one in which it has
@@ -83,7 +66,7 @@ module _ (due : ℕ) (l : List Trade) (n a : ℕ) where
             ∙ get_or-set_same rows here.security p no_position (omega arith)
             ∙ e
             ∙ ap (λ (q : Position). with_trade a q here) (ap (λ (j : ℕ). get_or rows j no_position) same ∙ m s b)
-            ∙ sym (rw read at (net_in due (take n l) a s i within (rw read f))))
+            ∙ sym (net_in due ts a s i h f))
             (λ f. get_or-set_other rows here.security s p no_position (λ q. eqb-false here.security s f (sym q))
             ∙ m s b
-            ∙ sym (net_out due (take n l) a s i within (rw read f)))
+            ∙ sym (net_out due ts a s i h f))

@@ -1,7 +1,7 @@
 -- The accounts that a list names, by a flag each. Where the flag is down no trade names the account, and an account that no trade names has
 -- no net in any security.
-use Rattle.std.specs.Prelude.{◌≡◌, Bool, true, false, not, List, ℕ, ◌+◌, ◌<◌, ◌≤◌, eqb, ltb, length, get_or, take, set}
-use Rattle.std.proofs.Common.{sym, ap, ◌∙◌, le_refl, arith, length-set, get_or-set_same, get_or-set_other, get_or-take, length-take-le, take-take, eqb-true, ltb-true}
+use Rattle.std.specs.Prelude.{◌≡◌, Bool, true, false, not, List, ℕ, ◌+◌, ◌<◌, eqb, ltb, length, get_or, take, set}
+use Rattle.std.proofs.Common.{sym, ap, ◌∙◌, arith, length-set, get_or-set_same, get_or-set_other, eqb-true, ltb-true}
 use Rattle.std.proofs.lemmas.Bool.{eqb-false}
 use Rattle.rules.specs.Words.{all}
 use Rattle.rules.specs.Bounds.{accounts}
@@ -23,14 +23,6 @@ Apart a ts = all (λ t. not (has_part a t)) ts ≡ true
 abbrev pub Named : List Bool → List Trade → Type 0
 Named flags ts = (a : ℕ) → a < 64 → get_or flags a false ≡ false → Apart a ts
 
--- the flags of the accounts from a to before b are down
-abbrev pub Down : List Bool → ℕ → ℕ → Type 0
-Down flags a b = (c : ℕ) → a ≤ c → c < b → get_or flags c false ≡ false
-
-pub down_more : (flags : List Bool) (a b : ℕ) → get_or flags b false ≡ false → Down flags a b → Down flags a (b + 1)
-down_more flags a b e d c l r =
-    by_test (eqb c b) (λ f. rw (eqb-true c b f) e) (λ f. d c l (omega (arith, eqb-false c b f)))
-
 -- ── such an account has no net ──
 
 pub apart_none : (due : ℕ) (ts : List Trade) (a s : ℕ) → Apart a ts → is_position (net_of due ts a s) ≡ false
@@ -38,7 +30,7 @@ unfolding trades_of
 apart_none due ts a s e =
     ap is_position (sym (net_of_own due ts a s) ∙ ap (λ (us : List Trade). net_of due us a s) (keep_nothing (has_part a) ts e)) ∙ no_position_lem due a s
 
--- ── the flags over the first n trades of a table: no trade yet, one more, all ──
+-- ── the flags over the trades of a list: no trade yet, one more, all ──
 
 -- a flag that was raised is not down
 raised : (flags : List Bool) (i a : ℕ) → i < length flags → get_or (set flags i true) a false ≡ false → (eqb i a ≡ false) × (get_or flags a false ≡ false)
@@ -50,30 +42,21 @@ raised flags i a h e =
 no_part : (a : ℕ) (t : Trade) → eqb t.buyer a ≡ false → eqb t.seller a ≡ false → not (has_part a t) ≡ true
 no_part a t e f = rw (e, f)
 
-module _ (l : List Trade) (n : ℕ) where
+module _ (ts : List Trade) where
   -- the first i of them
   abbrev pub NamedTo : List Bool → ℕ → Type 0
-  NamedTo flags i = Named flags (take i (take n l))
+  NamedTo flags i = Named flags (take i ts)
 
   pub named_none : (flags : List Bool) → NamedTo flags 0
-  named_none flags a h e = all_none (λ t. not (has_part a t)) (take n l)
+  named_none flags a h e = all_none (λ t. not (has_part a t)) ts
 
-  pub named_all : (flags : List Bool) (i : ℕ) → i ≡ n → NamedTo flags i → Named flags (take n l)
-  named_all flags i e m a h f = rw (take-take n n l (le_refl n)) at (rw e at (m a h f))
-
-  module _ (i : ℕ) (h : i < n) (w : n ≤ length l) where
+  module _ (i : ℕ) (h : i < length ts) where
     abbrev here : Trade
-    here = get_or l i no_trade
+    here = get_or ts i no_trade
 
-    within : i < length (take n l)
-    within = omega (arith, length-take-le n l w)
-
-    read : get_or (take n l) i no_trade ≡ here
-    read = get_or-take n l i no_trade h
-
-    pub accounts_here : all in_accounts (take n l) ≡ true → (here.buyer < 64) × (here.seller < 64)
+    pub accounts_here : all in_accounts ts ≡ true → (here.buyer < 64) × (here.seller < 64)
     accounts_here fit =
-        let b = both_hold (ltb here.buyer accounts) (ltb here.seller accounts) (rw read at (all_at in_accounts (take n l) i no_trade fit within)) in
+        let b = both_hold (ltb here.buyer accounts) (ltb here.seller accounts) (all_at in_accounts ts i no_trade fit h) in
         (ltb-true here.buyer accounts b.0, ltb-true here.seller accounts b.1)
 
     pub named_more : (flags : List Bool) → length flags ≡ 64 → here.buyer < 64 → here.seller < 64 → NamedTo flags i
@@ -81,4 +64,4 @@ module _ (l : List Trade) (n : ℕ) where
     named_more flags long hb hs m a ha e =
         let x = raised (set flags here.buyer true) here.seller a (omega (arith, length-set flags here.buyer true)) e in
         let y = raised flags here.buyer a (omega arith) x.1 in
-        all_more (λ t. not (has_part a t)) (take n l) i no_trade within (m a ha y.1) (rw read (no_part a here y.0 x.0))
+        all_more (λ t. not (has_part a t)) ts i no_trade h (m a ha y.1) (no_part a here y.0 x.0)

@@ -10,9 +10,11 @@ ghost use Rattle.netting_account.specs.AccountNets.{Nets};
 
 use crate::one_trade::{has_part, with_trade};
 use rules::{Position, Trade};
+use std::array;
 use units::{Mils, Shares, Whole};
 
 // Position number = due day * 2,048 + account * 32 + security.
+#[tactic(auto, unfolding(rules::specs::Book::number_of))]
 fn number_of(due: u32, account: u8, security: u8) -> u32
     requires { due ≤ last_day + 2 }
     ensures { result ≡ number_of due account security }
@@ -22,53 +24,29 @@ fn number_of(due: u32, account: u8, security: u8) -> u32
     due * 2_048 + a * 32 + s
 }
 
-// An account's nets, security by security. (A struct, because an array that a call hands back may not be laid in a
-// local inside a loop.)
-#[derive(Drop)]
-pub struct AccountNets {
-    pub rows: [Position; 32],
-}
-
 // An account's nets over no trades, as positions of a due day.
-fn no_nets(due: u32, account: u8) -> AccountNets
+fn no_nets(due: u32, account: u8) -> [Position; 32]
     requires { due ≤ last_day + 2 }
-    ensures { Nets due [] account result.rows }
+    ensures { Nets due [] account result }
 {
-    let none = Position {
-        number: 0,
+    array::from_fn(|s| Position {
+        number: number_of(due, account, s as u8),
         quantity: Shares(Whole(0)),
         money: Mils(Whole(0)),
-    };
-    let mut rows = [none; 32];
-    let mut s: usize = 0;
-    while s < 32 {
-        let number = number_of(due, account, s as u8);
-        rows[s] = Position {
-            number: number,
-            quantity: Shares(Whole(0)),
-            money: Mils(Whole(0)),
-        };
-        s += 1;
-    }
-    AccountNets { rows: rows }
+    })
 }
 
 // An account's nets over the first n trades, in one walk.
-pub fn account_nets(trades: [Trade; 256], n: usize, due: u32, account: u8) -> AccountNets
+pub fn account_nets(trades: [Trade; 256], n: usize, due: u32, account: u8) -> [Position; 32]
     requires { (n ≤ most_trades) × (due ≤ last_day + 2) × (all in_securities (take n trades) ≡ true) × (all in_limits (take n trades) ≡ true) }
-    ensures { Nets due (take n trades) account result.rows }
+    ensures { Nets due (take n trades) account result }
 {
     let mut nets = no_nets(due, account);
-    let mut i: usize = 0;
-    while i < n {
-        let t = trades[i];
-        i += 1;
-        if !has_part(t, account) {
-            continue;
+    for t in &trades[..n] {
+        if has_part(*t, account) {
+            let s = t.security as usize;
+            nets[s] = with_trade(nets[s], *t, account);
         }
-        let s = t.security as usize;
-        let net = nets.rows[s];
-        nets.rows[s] = with_trade(net, t, account);
     }
     nets
 }

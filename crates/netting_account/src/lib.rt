@@ -6,5 +6,5 @@ mod account;
 mod named;
 mod one_trade;
 
-pub use account::{AccountNets, account_nets};
-pub use named::{named_accounts, next_named};
+pub use account::account_nets;
+pub use named::named_accounts;

@@ -4,7 +4,7 @@ ghost use Rattle.std.specs.Prelude.{◌≡◌, true, ◌≤◌, take};
 ghost use Rattle.rules.specs.Words.{all};
 ghost use Rattle.rules.specs.Bounds.{most_trades};
 ghost use Rattle.laws.specs.NetLaws.{in_accounts};
-ghost use Rattle.netting_account.specs.Named.{Named, Down};
+ghost use Rattle.netting_account.specs.Named.{Named};
 
 use rules::Trade;
 
@@ -15,30 +15,9 @@ pub fn named_accounts(trades: [Trade; 256], n: usize) -> [bool; 64]
     ensures { Named result (take n trades) }
 {
     let mut named = [false; 64];
-    let mut i: usize = 0;
-    while i < n {
-        let t = trades[i];
-        let buyer = t.buyer as usize;
-        let seller = t.seller as usize;
-        named[buyer] = true;
-        named[seller] = true;
-        i += 1;
+    for t in &trades[..n] {
+        named[t.buyer as usize] = true;
+        named[t.seller as usize] = true;
     }
     named
-}
-
-// The next account to look at, from this one on: the flags before it are down. 64 if none is left.
-pub fn next_named(named: [bool; 64], from: u8) -> u8
-    requires { from ≤ 64 }
-    ensures { (from ≤ result) × (result ≤ 64) × Down named from result }
-{
-    let mut account = from;
-    while account < 64 {
-        let a = account as usize;
-        if named[a] {
-            return account;
-        }
-        account += 1;
-    }
-    64
 }

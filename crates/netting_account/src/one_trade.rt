@@ -14,21 +14,16 @@ fn plus_trade(p: Position, t: Trade, sold: bool) -> Position
     requires { Within (2 * most_mils) p × (in_limits t ≡ true) }
     ensures { (result ≡ plus_trade sold p t) × ((nat_abs (quantity_of result) ≤ nat_abs (quantity_of p) + most_mils) × (nat_abs (money_of result) ≤ nat_abs (money_of p) + most_mils)) }
 {
-    let size = t.quantity as u64;
-    let traded = Shares::of(sold, Quantity(size));
-    let price = t.price;
-    let amount = traded.times(price);
-    let q = p.quantity;
-    let m = p.money;
-    let quantity = q.plus(traded);
-    let money = m.plus(amount);
+    let traded = Shares::of(sold, Quantity(t.quantity as u64));
+    let amount = traded.times(t.price);
     Position {
         number: p.number,
-        quantity: quantity,
-        money: money,
+        quantity: p.quantity.plus(traded),
+        money: p.money.plus(amount),
     }
 }
 
+#[tactic(auto, using(crate::specs::OneTrade::bought_yes, crate::specs::OneTrade::bought_no))]
 fn plus_bought(p: Position, t: Trade, account: u8) -> Position
     requires { Within most_mils p × (in_limits t ≡ true) }
     ensures { (result ≡ plus_bought account p t) × Within (2 * most_mils) result }
@@ -39,6 +34,7 @@ fn plus_bought(p: Position, t: Trade, account: u8) -> Position
     plus_trade(p, t, false)
 }
 
+#[tactic(auto, using(crate::specs::OneTrade::sold_yes, crate::specs::OneTrade::sold_no))]
 fn less_sold(p: Position, t: Trade, account: u8) -> Position
     requires { Within (2 * most_mils) p × (in_limits t ≡ true) }
     ensures { result ≡ less_sold account p t }
@@ -50,12 +46,12 @@ fn less_sold(p: Position, t: Trade, account: u8) -> Position
 }
 
 // An account's net with one trade more in its security. An excluded trade adds nothing, for it has 0 shares.
+#[tactic(auto, unfolding(crate::specs::OneTrade::with_trade))]
 pub fn with_trade(p: Position, t: Trade, account: u8) -> Position
     requires { Within most_mils p × (in_limits t ≡ true) }
     ensures { result ≡ with_trade account p t }
 {
-    let b = plus_bought(p, t, account);
-    less_sold(b, t, account)
+    less_sold(plus_bought(p, t, account), t, account)
 }
 
 // Whether the account bought or sold in it.

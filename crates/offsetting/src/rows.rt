@@ -1,7 +1,7 @@
 // "The smaller remaining quantity is taken from both, each part's money is charged": one meeting, written where the two rows
 // and the charge stand.
-ghost use Rattle.std.specs.Prelude.{◌≡◌, length};
-ghost use Rattle.rules.specs.Layout.{book_length, book_of};
+ghost use Rattle.std.specs.Prelude.{◌≡◌};
+ghost use Rattle.rules.specs.Layout.{book_of};
 ghost use Rattle.offsetting.specs.Rows.{RowsAsk, met_in};
 
 use book::{BookBytes, charge_at, position_at, put_charge, put_position};
@@ -12,13 +12,8 @@ pub fn meet(b: &mut BookBytes, i: usize, j: usize, at: usize)
     requires { RowsAsk (book_of b.old) i j at }
     ensures { book_of b.new ≡ met_in (book_of b.old) i j at }
 {
-    let p = position_at(b, i);
-    let o = position_at(b, j);
-    let m = meeting(charge_at(b, at), p, o);
-    let met = m.older;
-    let rest = m.newly;
-    let charge = m.charge;
-    put_position(b, j, met);
-    put_position(b, i, rest);
-    put_charge(b, at, charge);
+    let met = meeting(charge_at(b, at), position_at(b, i), position_at(b, j));
+    put_position(b, j, met.older);
+    put_position(b, i, met.newly);
+    put_charge(b, at, met.charge);
 }

@@ -1,7 +1,7 @@
 // "Due positions are offset": each newly due record, by ascending number, meets the older ones, by ascending number,
 // where the bytes stand.
-ghost use Rattle.std.specs.Prelude.{◌≡◌, length};
-ghost use Rattle.rules.specs.Layout.{book_length, book_of};
+ghost use Rattle.std.specs.Prelude.{◌≡◌};
+ghost use Rattle.rules.specs.Layout.{book_of};
 ghost use Rattle.rules.specs.Roll.{offset};
 ghost use Rattle.laws.specs.OffsetKept.{Ready};
 ghost use Rattle.parts.specs.Packing.{PackAsks};
@@ -23,23 +23,17 @@ fn offset_rows(b: &mut BookBytes, older: usize, due: usize)
     ensures { Walked (book_of b.old) (book_of b.new) }
 {
     let codes = codes_of(b);
-    let mut i = older;
-    'newly: while i < due {
+    'newly: for i in older..due {
         let fresh = position_at(b, i);
         let at = place_of(codes, fresh);
         let charge = with_whole(charge_at(b, at), fresh);
         put_charge(b, at, charge);
-        let mut left = older;
-        'older: while 0 < left {
-            let j = older - left;
-            left -= 1;
+        'older: for j in 0..older {
             let o = position_at(b, j);
-            if !same_pair(fresh, o) {
-                continue 'older;
+            if same_pair(fresh, o) {
+                meet(b, i, j, at);
             }
-            meet(b, i, j, at);
         }
-        i += 1;
     }
 }
 

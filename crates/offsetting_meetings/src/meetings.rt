@@ -30,37 +30,27 @@ pub fn same_pair(p: Position, o: Position) -> bool
 fn is_opposite(p: Position, o: Position) -> bool
     ensures { result ≡ opposite p o }
 {
-    let q = p.quantity;
-    let s = o.quantity;
-    if q.is_zero() {
-        return false;
-    }
-    if s.is_zero() {
-        return false;
-    }
-    q.is_negative() != s.is_negative()
+    !p.quantity.is_zero()
+        && !o.quantity.is_zero()
+        && p.quantity.is_negative() != o.quantity.is_negative()
 }
 
 // A newly due record p, and an older one o.
 fn is_facing(p: Position, o: Position) -> bool
     ensures { result ≡ faces p o }
 {
-    if !same_pair(p, o) {
-        return false;
-    }
-    is_opposite(p, o)
+    same_pair(p, o) && is_opposite(p, o)
 }
 
 // As many shares as the smaller of the two has; whose sign they carry does not matter.
 fn smaller_of(p: Position, o: Position) -> Shares
     ensures { nat_abs (shares_of result) ≡ smaller p o }
 {
-    let q = p.quantity;
-    let s = o.quantity;
-    if q.size().0 < s.size().0 {
-        return q;
+    if p.quantity.size().0 < o.quantity.size().0 {
+        p.quantity
+    } else {
+        o.quantity
     }
-    s
 }
 
 // Records that do not face each other stay as they are.
@@ -72,17 +62,15 @@ pub fn meeting(charge: Mils, p: Position, o: Position) -> Met
         return Met {
             older: o,
             newly: p,
-            charge: charge,
+            charge,
         };
     }
     let k = smaller_of(p, o);
     let once = with_part(charge, o, k);
     let both = with_part(once, p, k);
-    let older = rest_of(o, k);
-    let newly = rest_of(p, k);
     Met {
-        older: older,
-        newly: newly,
+        older: rest_of(o, k),
+        newly: rest_of(p, k),
         charge: both,
     }
 }
@@ -92,11 +80,9 @@ pub fn with_whole(charge: Mils, p: Position) -> Mils
     requires { nat_abs (mils_of charge) + nat_abs (money_of p) < 2 ^ 63 }
     ensures { result ≡ cond (is_zero (quantity_of p)) (mils (mils_of charge +ℤ money_of p)) charge }
 {
-    let q = p.quantity;
-    let m = p.money;
-    let whole = charge.plus(m);
-    if q.is_zero() {
-        return whole;
+    if p.quantity.is_zero() {
+        charge.plus(p.money)
+    } else {
+        charge
     }
-    charge
 }

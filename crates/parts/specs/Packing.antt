@@ -216,9 +216,6 @@ module _ (k : Book) (from : ℕ) (long : length k.positions ≡ most_records) wh
             ∙ ap (with_rows k k.records) (cleared_more k.positions from i c.row (omega arith));
       }
 
-  pub clearing_end : (bs : List ℕ) (i to : ℕ) → i ≡ to → Clearing k from bs i → book_of bs ≡ with_rows k k.records (cleared k.positions from to)
-  clearing_end bs i to e c = c.table ∙ ap (λ (n : ℕ). with_rows k k.records (cleared k.positions from n)) e
-
 -- ── the whole ──
 
 -- behind the rows that remain all is zero

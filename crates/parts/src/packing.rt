@@ -3,7 +3,7 @@
 ghost use Rattle.std.specs.Prelude.{◌≡◌, ◌≤◌, length};
 ghost use Rattle.rules.specs.Bounds.{most_records};
 ghost use Rattle.rules.specs.Book.{with_open};
-ghost use Rattle.rules.specs.Layout.{book_length, book_of};
+ghost use Rattle.rules.specs.Layout.{book_of};
 ghost use Rattle.book.specs.Replacing.{with_rows};
 ghost use Rattle.parts.specs.Packing.{PackAsks, remaining_in, moved_up, cleared};
 
@@ -19,21 +19,16 @@ fn move_up(b: &mut BookBytes) -> usize
 {
     let day = day_at(b);
     let n = records_at(b) as usize;
-    let mut kept: usize = 0;
-    let mut i: usize = 0;
-    while i < n {
+    let mut kept = 0;
+    for i in 0..n {
         let p = position_at(b, i);
-        let row = i;
-        i += 1;
         if !nonzero_if_due(day, p) {
             continue;
         }
-        let to = kept;
-        kept += 1;
-        if to == row {
-            continue;
+        if kept != i {
+            put_position(b, kept, p);
         }
-        put_position(b, to, p);
+        kept += 1;
     }
     kept
 }
@@ -48,10 +43,8 @@ fn clear_rows(b: &mut BookBytes, from: usize, to: usize)
         quantity: Shares(Whole(0)),
         money: Mils(Whole(0)),
     };
-    let mut i = from;
-    while i < to {
+    for i in from..to {
         put_position(b, i, none);
-        i += 1;
     }
 }
 

@@ -10,8 +10,5 @@ pub fn place_of(codes: [u8; 32], p: Position) -> usize
     requires { get_or codes (security_of p) 0 < 4 }
     ensures { (result ≡ account_of p * 4 + get_or codes (security_of p) 0) × (result < 256) }
 {
-    let a = account_of(p);
-    let s = security_of(p);
-    let c = codes[s] as usize;
-    a * 4 + c
+    account_of(p) * 4 + codes[security_of(p)] as usize
 }

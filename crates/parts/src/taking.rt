@@ -14,9 +14,7 @@ fn part_of(p: Position, k: Shares) -> Mils
     requires { PartAsks (money_of p) (quantity_of p) (nat_abs (shares_of k)) }
     ensures { (mils_of result ≡ part_money p (nat_abs (shares_of k))) × (nat_abs (mils_of result) ≤ nat_abs (money_of p)) }
 {
-    let m = p.money;
-    let q = p.quantity;
-    units_rounded::part(m, q, k)
+    units_rounded::part(p.money, p.quantity, k)
 }
 
 // The record without k of its shares and their money.
@@ -24,15 +22,10 @@ pub fn rest_of(p: Position, k: Shares) -> Position
     requires { PartAsks (money_of p) (quantity_of p) (nat_abs (shares_of k)) }
     ensures { result ≡ without p (nat_abs (shares_of k)) }
 {
-    let m = p.money;
-    let q = p.quantity;
-    let gone = part_of(p, k);
-    let quantity = q.toward_zero(k);
-    let money = m.minus(gone);
     Position {
         number: p.number,
-        quantity: quantity,
-        money: money,
+        quantity: p.quantity.toward_zero(k),
+        money: p.money.minus(part_of(p, k)),
     }
 }
 
@@ -41,6 +34,5 @@ pub fn with_part(charge: Mils, p: Position, k: Shares) -> Mils
     requires { PartAsks (money_of p) (quantity_of p) (nat_abs (shares_of k)) × (nat_abs (mils_of charge) + nat_abs (money_of p) < 2 ^ 63) }
     ensures { (mils_of result ≡ mils_of charge +ℤ part_money p (nat_abs (shares_of k))) × (nat_abs (mils_of result) ≤ nat_abs (mils_of charge) + nat_abs (money_of p)) }
 {
-    let gone = part_of(p, k);
-    charge.plus(gone)
+    charge.plus(part_of(p, k))
 }

@@ -25,17 +25,6 @@ pub record Holders (n : ℕ) (hs : List ℕ) (s : ℕ) (held : List ℕ) : Type 
   pub long : length held ≡ accounts
   pub each : (a : ℕ) → a < n → get_or held a 0 ≡ get_or hs (holding_at a s) 0
 
-pub holders_none : (hs : List ℕ) (s : ℕ) (held : List ℕ) → length held ≡ accounts → Holders 0 hs s held
-holders_none hs s held l = record { long = l; each = λ a h. omega arith }
-
-module _ (n : ℕ) (hs : List ℕ) (s : ℕ) (held : List ℕ) (v : ℕ) (h : n < accounts) (t : Holders n hs s held) (e : v ≡ get_or hs (holding_at n s) 0) where
-  more_each : (a : ℕ) → a < n + 1 → Dec (a ≡ n) → get_or (set held n v) a 0 ≡ get_or hs (holding_at a s) 0
-  more_each a k (yes f) = rw f (get_or-set_same held n v 0 (omega (arith, t.long)) ∙ e)
-  more_each a k (no f) = get_or-set_other held n a v 0 f ∙ t.each a (omega arith)
-
-  pub holders_more : Holders (n + 1) hs s (set held n v)
-  holders_more = record { long = simp length-set t.long; each = λ a k. more_each a k (ℕ_discrete a n) }
-
 -- one entry is altered, here and there
 module _ (hs : List ℕ) (s : ℕ) (held : List ℕ) (n v : ℕ) (long : length hs ≡ accounts * securities) (hs-below : s < securities) (h : n < accounts) (t : Holders accounts hs s held) where
   set_each : (a : ℕ) → a < accounts → Dec (a ≡ n) → get_or (set held n v) a 0 ≡ get_or (set hs (holding_at n s) v) (holding_at a s) 0

@@ -1,10 +1,10 @@
 // What can be given and what is wanted (document 01, "Settlement run", and refusal 13: "deliverable shares exceed the
 // receivers' total").
-ghost use Rattle.std.specs.Prelude.{◌≡◌, true, ◌*◌, ◌<◌, ◌≤◌, length};
+ghost use Rattle.std.specs.Prelude.{◌≡◌, true, ◌*◌, ◌<◌, ◌≤◌};
 ghost use Rattle.units.specs.Units.{most_shares};
 ghost use Rattle.rules.specs.Words.{all};
 ghost use Rattle.rules.specs.Bounds.{accounts, most_records};
-ghost use Rattle.rules.specs.Layout.{book_length, book_of};
+ghost use Rattle.rules.specs.Layout.{book_of};
 ghost use Rattle.rules.specs.Sound.{sound};
 ghost use Rattle.rules.specs.Run.{deliverable, wanted};
 ghost use Rattle.settling_counts.specs.Holders.{Holders, is_none};
@@ -12,6 +12,7 @@ ghost use Rattle.settling_counts.specs.Holders.{Holders, is_none};
 use crate::sides::{owes_of, smaller, wants_of};
 use book::{BookBytes, day_at, holding_at, position_at, records_at};
 use sound_positions::account_of;
+use std::array;
 use units::Quantity;
 
 // What each account holds of the security.
@@ -19,28 +20,14 @@ fn held_of(b: &BookBytes, security: u8) -> [u64; 64]
     requires { security < 32 }
     ensures { Holders accounts (book_of b.now).holdings security result }
 {
-    let s = security as usize;
-    let mut held = [0u64; 64];
-    let mut a: usize = 0;
-    while a < 64 {
-        held[a] = holding_at(b, a * 32 + s);
-        a += 1;
-    }
-    held
+    array::from_fn(|a| holding_at(b, a * 32 + security as usize))
 }
 
 // Whether no account holds any.
-fn none_held(held: [u64; 64]) -> bool
-    ensures { result ≡ all is_none held }
+fn none_held(held: &[u64; 64]) -> bool
+    ensures { result ≡ all is_none held.now }
 {
-    let mut a: usize = 0;
-    while a < 64 {
-        if held[a] != 0 {
-            return false;
-        }
-        a += 1;
-    }
-    true
+    held.iter().all(|h| *h == 0)
 }
 
 // Due deliverers, by ascending number, give the smaller of their shares and what the account still holds: what was given
@@ -53,22 +40,19 @@ pub fn deliverable_of(b: &BookBytes, security: u8) -> Quantity
     let day = day_at(b);
     let n = records_at(b) as usize;
     let mut held = held_of(b, security);
-    if none_held(held) {
+    if none_held(&held) {
         return Quantity(0);
     }
-    let mut sum: u64 = 0;
-    let mut i: usize = 0;
-    while i < n {
+    let mut sum = 0;
+    for i in 0..n {
         let p = position_at(b, i);
-        i += 1;
         let owed = owes_of(day, security, p);
         if owed.0 == 0 {
             continue;
         }
         let a = account_of(p);
-        let old = held[a];
-        let gives = smaller(owed, Quantity(old));
-        held[a] = old - gives.0;
+        let gives = smaller(owed, Quantity(held[a]));
+        held[a] -= gives.0;
         sum += gives.0;
     }
     Quantity(sum)
@@ -81,13 +65,9 @@ pub fn wanted_of(b: &BookBytes, security: u8) -> Quantity
 {
     let day = day_at(b);
     let n = records_at(b) as usize;
-    let mut sum: u64 = 0;
-    let mut i: usize = 0;
-    while i < n {
-        let p = position_at(b, i);
-        let wants = wants_of(day, security, p);
-        sum += wants.0;
-        i += 1;
+    let mut sum = 0;
+    for i in 0..n {
+        sum += wants_of(day, security, position_at(b, i)).0;
     }
     Quantity(sum)
 }

@@ -5,55 +5,57 @@
 mod input;
 mod output;
 
-ghost use Rattle.std.specs.Prelude.{◌≡◌, ◌⊎◌, cond, true, pos, [], ◌≤◌, length, take, IfSome};
+ghost use Rattle.std.specs.Prelude.{◌≡◌, ◌⊎◌, pos, ◌≤◌, length, take, IfSome, OnOk, option_copied};
 ghost use Rattle.std.specs.Io.KnownBytes.{Appends};
 ghost use Rattle.rules.specs.Sheet.{sheet_of};
 ghost use Rattle.sheet_laws.specs.Bounded.{most_bytes};
-ghost use Rattle.sheet_printer.specs.Printed.{IsFrontWritten, IsPrinted};
+ghost use Rattle.sheet_printer.specs.Printed.{IsFrontWritten, IsPrinted, sheet_of_read};
 
 use input::read_whole;
-use output::write_whole;
+use output::{WriteFailed, write_whole};
 use std::io::{Read, Stderr, Stdin, Stdout, Write};
 
-// What is to be printed: the sheet of what was read, and nothing where a read failed.
-fn printed<'a>(failed: bool, file: &[u8], buffer: &'a mut [u8]) -> &'a mut [u8]
+// What is to be printed: the sheet of what was read, and nothing where it could not be read.
+fn printed<'a>(file: Option<&[u8]>, buffer: &'a mut [u8]) -> &'a mut [u8]
     requires { most_bytes ≤ length buffer.old }
-    ensures { result.now ≡ cond failed [] (sheet_of file.now) }
+    ensures { result.now ≡ sheet_of_read (option_copied file.entry) }
 {
-    if failed {
-        return &mut buffer[..0];
+    match file {
+        Some(file) => sheets::sheet_part(file, buffer),
+        None => &mut buffer[..0],
     }
-    sheets::sheet_part(file, buffer)
 }
 
 // No sheet is longer than the buffer (sheet_laws/proofs/Bounded), so that every sheet is printed.
-fn print_sheet<W: Write>(output: &mut W, failed: bool, file: &[u8]) -> bool
-    ensures whole { result ≡ true → Appends (W.contents output.old) (W.contents output.new) (cond failed [] (sheet_of file.now)) }
-    ensures front { IsFrontWritten (W.contents output.old) (W.contents output.new) (cond failed [] (sheet_of file.now)) }
+fn print_sheet<W: Write>(output: &mut W, file: Option<&[u8]>) -> Result<(), WriteFailed>
+    ensures whole { OnOk result (Appends (W.contents output.old) (W.contents output.new) (sheet_of_read (option_copied file.entry))) }
+    ensures front { IsFrontWritten (W.contents output.old) (W.contents output.new) (sheet_of_read (option_copied file.entry)) }
 {
     let mut buffer = [0u8; 295620];
-    let sheet = printed(failed, file, &mut buffer);
+    let sheet = printed(file, &mut buffer);
     write_whole(output, sheet)
 }
 
 // 0, or 1 where the input could not be read (then nothing is printed) or the sheet could not be written; both say so on
-// standard error. A file past 65,535 bytes is refused, so that one byte more than these is all that needs to be read.
+// standard error, and where that fails too, the status alone says it. A file past 65,535 bytes is refused, so that one byte
+// more than these is all that needs to be read.
 fn print<I: Read, O: Write, E: Write>(stdin: &mut I, stdout: &mut O, stderr: &mut E) -> i32
     ensures status { (result ≡ pos 0) ⊎ (result ≡ pos 1) }
     ensures whole { result ≡ pos 0 → IfSome (I.remaining stdin.old) (λ xs. Appends (O.contents stdout.old) (O.contents stdout.new) (sheet_of (take 65_536 xs))) }
     ensures front { IsPrinted (I.remaining stdin.old) (I.remaining stdin.new) (O.contents stdout.old) (O.contents stdout.new) }
 {
-    let mut file = [0u8; 65536];
-    let read = read_whole(stdin, &mut file);
-    let n = read.size;
-    let got = &file[..];
-    let written = print_sheet(stdout, read.failed, &got[..n]);
-    if read.failed {
-        write_whole(stderr, b"sheet: standard input cannot be read, no sheet\n");
+    let mut buffer = [0u8; 65536];
+    let file = match read_whole(stdin, &mut buffer) {
+        Ok(n) => Some(&buffer[..n]),
+        Err(_) => None,
+    };
+    let written = print_sheet(stdout, file);
+    if file.is_none() {
+        let _ = write_whole(stderr, b"sheet: standard input cannot be read, no sheet\n");
         return 1;
     }
-    if !written {
-        write_whole(
+    if written.is_err() {
+        let _ = write_whole(
             stderr,
             b"sheet: standard output cannot be written, the sheet is cut\n",
         );

@@ -29,9 +29,6 @@ module _ {A : Type 0} where
 
   -- ── rows replaced one after the other ──
 
-  pub none_yet : (f : A → A) (l : List A) → l ≡ map f (take 0 l) ++ drop 0 l
-  none_yet f l = refl
-
   one_more : (f : A → A) (l : List A) (i : ℕ) (d : A) → i < length l
       → set (map f (take i l) ++ drop i l) i (f (get_or l i d)) ≡ map f (take (suc i) l) ++ drop (suc i) l
   one_more f [] i d h = absurd (omega arith)

@@ -1,29 +1,18 @@
 -- `calls_rolls::quiet::quiet_roll` meets its contract: refusal 14, acceptance. Assumes nothing.
-use mathlib.Core.Path.{ap, sym, ◌∙◌}
-use native.Mathlib.Omega.{arith}
-use Prim.Native.Nat.{ℕ, ◌+◌}
+use Rattle.std.proofs.Common.{ℕ, ◌+◌, ap, sym, ◌∙◌, arith}
 use Rattle.rules.specs.Layout.{book_of, bytes_of}
 use Rattle.rules.specs.Calls.{roll}
 use Rattle.laws.specs.SoundParts.{day_small}
-use Rattle.laws.specs.SoundBytes.{shaped, long, is_sound, refused, accepted}
+use Rattle.laws.specs.SoundBytes.{shaped, is_sound, refused, accepted}
 use Rattle.calls_rolls.specs.Rolls.{last_day_lem, may}
 use Rattle.calls_rolls.specs.Quiet.{few, rolled_quietly, written}
 use Rattle.calls_rolls.proofs.quiet.quiet_roll.Goals as goal
-
-pub day_at-day-requires : goal.day_at-day-requires
-day_at-day-requires c = long _ c.requires.0
 
 pub returns-then-day : goal.returns-then-day
 returns-then-day c = refused c.args.b.now c.requires.0 roll 14 (last_day_lem _ (few _ (is_sound _ c.requires.0) (shaped _) c.requires.1) (sym c.day_at-day.ensures ∙ c.if-day.true)) (λ z. omega arith)
 
 pub overflow_add-day : goal.overflow_add-day
 overflow_add-day c = omega (arith, c.day_at-day.ensures, day_small _ (is_sound _ c.requires.0))
-
-pub put_day-requires : goal.put_day-requires
-put_day-requires c = long _ c.requires.0
-
-pub clear_charges-requires : goal.clear_charges-requires
-clear_charges-requires c = omega (arith, long _ c.requires.0, c.put_day.auto.b)
 
 pub returns : goal.returns
 returns c =

@@ -1,7 +1,6 @@
 -- `netting::nets::with_nets` meets its contract. The invariant of the loop over accounts: behind the open positions stand the nets of the
--- accounts before; of the loop over an account's securities: and those of its securities before. Assumes nothing.
-use Prim.Native.Nat.{ℕ, ◌+◌, ◌-◌, ◌*◌, ◌≤◌}
-use mathlib.Core.List.{List}
+-- accounts before; of the loop over an account's nets: and those of its securities before. Assumes nothing.
+use Rattle.std.proofs.Common.{ℕ, ◌+◌, ◌*◌, List}
 use Rattle.rules.specs.Book.{open_of, list_of}
 use Rattle.rules.specs.Layout.{book_of}
 use Rattle.rules.specs.declared.Position.{Position}
@@ -13,14 +12,8 @@ use Rattle.netting.proofs.nets.with_nets.Given as goal
 abbrev pub Behind : Book → ℕ → ℕ → List Position → Type 0
 Behind k i count rows = Filled (k.day + 2) (list_of k) (open_of k) i count rows
 
-abbrev pub invariant-loop-s : goal.invariant-loop-s
-invariant-loop-s l = (l.s ≤ 32) × Behind (book_of l.b) (l.account * 32 + l.s) l.count l.positions
-
-abbrev pub decreases-loop-s : goal.decreases-loop-s
-decreases-loop-s l = 32 - l.s
+abbrev pub invariant-loop-net : goal.invariant-loop-net
+invariant-loop-net l = Behind (book_of l.b) (l.account * 32 + l.net-index) l.count l.positions
 
 abbrev pub invariant-loop-account : goal.invariant-loop-account
 invariant-loop-account l = Behind (book_of l.b) (l.account * 32) l.count l.positions
-
-abbrev pub decreases-loop-account : goal.decreases-loop-account
-decreases-loop-account l = 64 - l.account

@@ -1,11 +1,7 @@
 -- `netting::steps::put_nets` meets its contract. The loop's invariant: the rows before i are those of the table handed over. Assumes nothing.
-use Prim.Native.Nat.{◌-◌, ◌≤◌}
 use Rattle.rules.specs.Layout.{book_of}
 use Rattle.netting.specs.Before.{Putting}
 use Rattle.netting.proofs.steps.put_nets.Given as goal
 
 abbrev pub invariant-loop-i : goal.invariant-loop-i
-invariant-loop-i l = (l.i ≤ l.n) × Putting (book_of l.initial.b) l.t.positions l.b l.i
-
-abbrev pub decreases-loop-i : goal.decreases-loop-i
-decreases-loop-i l = l.n - l.i
+invariant-loop-i l = Putting (book_of l.initial.b) l.t.positions l.b l.i

@@ -1,89 +1,89 @@
 -- `offsetting::walk::offset_rows` meets its contract. Both loops' invariants say that what is left to do from here comes to what the rule
--- comes to: `Outside` between two newly due rows; `Inside` while row i meets the older ones, kept for whatever book the walk began with. Assumes
+-- comes to: `Outside` between two newly due rows; `Inside` while row i meets the older ones, kept for whatever the turn of row i comes to. Assumes
 -- nothing.
-use Rattle.std.proofs.Common.{sym, ◌∙◌, arith, ℕ, List}
+use Rattle.std.proofs.Common.{◌≡◌, false, ℕ, ◌+◌, ◌-◌, ◌<◌, List, length, get_or, sym, ◌∙◌, arith}
+use Rattle.rules.specs.Bounds.{most_records}
+use Rattle.rules.specs.Book.{no_position}
 use Rattle.rules.specs.Layout.{book_of}
+use Rattle.rules.specs.Sound.{same_pair}
+use Rattle.rules.specs.declared.Position.{Position}
 use Rattle.rules.specs.declared.Book.{Book}
 use Rattle.offsetting.specs.Walk.{Walking, in_use, pass, whole}
+use Rattle.offsetting.specs.Rows.{RowsAsk, met_in}
 use Rattle.offsetting.specs.Bytes.{Started, Inside, started, outside_start, row_below, code_below, whole_room, inside_start, outside_next, outside_end, inside_passed, meet_asks, inside_met}
 use Rattle.offsetting.proofs.walk.offset_rows.Goals as goal
-use Rattle.offsetting.proofs.walk.offset_rows.Goals.{After-codes_of-codes, After-put_charge}
+use Rattle.offsetting.proofs.walk.offset_rows.Goals.{After-codes_of-codes, After-put_charge, then-same_pair, else-same_pair}
 
 -- ── the outer loop ──
 
 begun : (c : After-codes_of-codes) → Started (book_of c.args.b.now) c.args.older c.args.due c.codes_of-codes.result
-begun c = started c.args.b.now c.args.older c.args.due c.codes_of-codes.result c.requires.1 c.codes_of-codes.ensures
+begun c = started _ _ _ _ c.requires c.codes_of-codes.ensures
 
 pub newly-init : goal.newly-init
-newly-init c = outside_start c.args.b.now c.args.older c.args.due c.codes_of-codes.result c.requires.0 (begun (goal.at.newly-init c).After-codes_of-codes)
+newly-init c = outside_start _ _ _ _ c.told-b (begun (goal.at.newly-init c).After-codes_of-codes)
 
 pub position_at-fresh-requires : goal.position_at-fresh-requires
-position_at-fresh-requires c =
-    (c.newly.invariant.long, row_below (begun (goal.at.position_at-fresh-requires c).After-codes_of-codes) c.newly.i c.newly.b c.newly-test.true c.newly.invariant)
+position_at-fresh-requires c = row_below (begun (goal.at.position_at-fresh-requires c).After-codes_of-codes) c.newly.i c.newly.b c.newly-test.true c.newly.invariant
 
 pub place_of-at-requires : goal.place_of-at-requires
 place_of-at-requires c =
-    code_below (begun (goal.at.place_of-at-requires c).After-codes_of-codes) c.newly.i c.newly.b c.newly-test.true c.newly.invariant c.position_at-fresh.result c.position_at-fresh.ensures
+    code_below (begun (goal.at.place_of-at-requires c).After-codes_of-codes) c.newly.i c.newly.b c.newly-test.true c.newly.invariant _ c.position_at-fresh.ensures
 
 pub with_whole-charge-requires : goal.with_whole-charge-requires
 with_whole-charge-requires c =
-    whole_room (begun (goal.at.with_whole-charge-requires c).After-codes_of-codes) c.newly.i c.newly.b c.newly-test.true c.newly.invariant c.position_at-fresh.result c.position_at-fresh.ensures
-    c.place_of-at.result c.place_of-at.ensures.0 c.place_of-at.ensures.1 c.charge_at.result c.charge_at.ensures
+    whole_room (begun (goal.at.with_whole-charge-requires c).After-codes_of-codes) c.newly.i c.newly.b c.newly-test.true c.newly.invariant _ c.position_at-fresh.ensures
+    _ c.place_of-at.ensures.0 c.place_of-at.ensures.1 _ c.charge_at.ensures
 
--- ── the inner loop: row i in the outer one, its charge, and what comes of its turn ──
+-- ── the inner loop: row j of the older ones ──
 
-abbrev comes : Book → ℕ → ℕ → List ℕ → Walking
-comes b older i bs = pass b i older 0 (whole b i (in_use b.records (book_of bs)))
+module _ {b : Book} {older i : ℕ} {fresh : Position} {at : ℕ} (j : ℕ) {w : Walking} {bs : List ℕ} (h : j < older) (c : Inside b older i fresh at (older - j) w bs) where
+  here : older - (older - j) ≡ j
+  here = omega arith
 
+  next : older - (j + 1) ≡ (older - j) - 1
+  next = omega arith
+
+  older_below : j < most_records
+  older_below = omega (arith, c.behind, c.below, c.few)
+
+  may_meet : RowsAsk (book_of bs) i j at
+  may_meet = rw here at (meet_asks b older i fresh at (older - j) w bs (omega arith) c)
+
+  passed : (o : Position) → o ≡ get_or (book_of bs).positions j no_position → same_pair fresh o ≡ false → Inside b older i fresh at (older - (j + 1)) w bs
+  passed o eo e = rw next (inside_passed b older i fresh at (older - j) w bs (omega arith) c o (rw here eo) e)
+
+  met : (new : List ℕ) → length new ≡ length bs → book_of new ≡ met_in (book_of bs) i j at → Inside b older i fresh at (older - (j + 1)) w new
+  met new long e = rw next (inside_met b older i fresh at (older - j) w bs (omega arith) c new long (rw here e))
+
+-- row i is charged, and begins its turn
 entered : (c : After-put_charge)
-    → Inside (book_of c.args.b.now) c.args.older c.newly.i c.position_at-fresh.result c.place_of-at.result c.args.older (comes (book_of c.args.b.now) c.args.older c.newly.i c.newly.b) c.put_charge.new.b
+    → let b = book_of c.args.b.now in
+    Inside b c.args.older c.newly.i c.position_at-fresh.result c.place_of-at.result c.args.older (pass b c.newly.i c.args.older 0 (whole b c.newly.i (in_use b.records (book_of c.newly.b)))) c.put_charge.new.b
 entered c =
-    inside_start (started c.args.b.now c.args.older c.args.due c.codes_of-codes.result c.requires.1 c.codes_of-codes.ensures)
-    c.newly.i c.newly.b c.newly-test.true c.newly.invariant c.position_at-fresh.result c.position_at-fresh.ensures
-    c.place_of-at.result c.place_of-at.ensures.0 c.place_of-at.ensures.1 c.charge_at.result c.charge_at.ensures
-    c.with_whole-charge.result c.with_whole-charge.ensures c.put_charge.new.b c.put_charge.auto.b c.put_charge.ensures.1
-
-pub older-init : goal.older-init
-older-init c = λ k w i. i
-
-pub overflow_sub-j : goal.overflow_sub-j
-overflow_sub-j c =
-    let x = c.older.invariant (book_of c.args.b.now) (comes (book_of c.args.b.now) c.args.older c.newly.i c.newly.b) (entered (goal.at.overflow_sub-j c).After-put_charge) in
-    omega (arith, x.inner.within, c.older-test.true)
+    inside_start (started _ _ _ _ c.requires c.codes_of-codes.ensures)
+    c.newly.i c.newly.b c.newly-test.true c.newly.invariant _ c.position_at-fresh.ensures _ c.place_of-at.ensures.0 c.place_of-at.ensures.1 _ c.charge_at.ensures
+    _ c.with_whole-charge.ensures _ (c.put_charge.array_long ∙ sym c.newly.invariant.long) c.put_charge.ensures.1
 
 pub position_at-o-requires : goal.position_at-o-requires
-position_at-o-requires c =
-    let x = c.older.invariant (book_of c.args.b.now) (comes (book_of c.args.b.now) c.args.older c.newly.i c.newly.b) (entered (goal.at.position_at-o-requires c).After-put_charge) in
-    (x.long, omega (arith, x.inner.within, x.behind, x.below, x.few, c.older-test.true))
-
--- rows of other accounts or securities
-
-pub older-preserved-then-not-same_pair : goal.older-preserved-then-not-same_pair
-older-preserved-then-not-same_pair c =
-    λ k w i. inside_passed k _ _ _ _ _ w c.older.b c.older-test.true (c.older.invariant k w i) c.position_at-o.result c.position_at-o.ensures
-    (sym c.same_pair.ensures ∙ c.if-not-same_pair.true)
-
--- a meeting
+position_at-o-requires c = older_below c.older.j c.older-test.true (c.older.invariant _ (entered (goal.at.position_at-o-requires c).After-put_charge))
 
 pub meet-requires : goal.meet-requires
-meet-requires c =
-    let x = c.older.invariant (book_of c.args.b.now) (comes (book_of c.args.b.now) c.args.older c.newly.i c.newly.b) (entered (goal.at.meet-requires c).After-put_charge) in
-    (x.long, meet_asks _ _ _ _ _ _ _ _ c.older-test.true x)
+meet-requires c = may_meet c.older.j c.older-test.true (c.older.invariant _ (entered (goal.at.meet-requires c).After-put_charge))
 
 pub older-preserved : goal.older-preserved
-older-preserved c = λ k w i. inside_met k _ _ _ _ _ w c.older.b c.older-test.true (c.older.invariant k w i) c.meet.new.b c.meet.auto.b c.meet.ensures
+older-preserved c =
+    λ w start. let inside = c.older.invariant w start in
+    elim c.if-same_pair.branch [
+      | then-same_pair x ↦ met c.older.j c.older-test.true inside _ (c.if-same_pair.array_long ∙ sym inside.long) (cc)
+      | else-same_pair x ↦ rw x.b-is (passed c.older.j c.older-test.true inside _ c.position_at-o.ensures (sym c.same_pair.ensures ∙ x.if-same_pair.false))
+    ]
 
 -- ── the next newly due row, and the end ──
 
-pub overflow_add-i : goal.overflow_add-i
-overflow_add-i c =
-    let x = c.older.invariant (book_of c.args.b.now) (comes (book_of c.args.b.now) c.args.older c.newly.i c.newly.b) (entered (goal.at.overflow_add-i c).After-put_charge) in
-    omega (arith, x.below, x.few)
-
 pub newly-preserved : goal.newly-preserved
 newly-preserved c =
-    let x = c.older.invariant (book_of c.args.b.now) (comes (book_of c.args.b.now) c.args.older c.newly.i c.newly.b) (entered (goal.at.newly-preserved c).After-put_charge) in
-    outside_next (begun (goal.at.newly-preserved c).After-codes_of-codes) c.newly.i c.newly.b c.newly-test.true c.newly.invariant _ _ c.older.left c.older.b (omega (arith, c.older-test.false)) x
+    outside_next (begun (goal.at.newly-preserved c).After-codes_of-codes) c.newly.i c.newly.b c.newly-test.true c.newly.invariant _ _ _ c.older.b (omega arith)
+    (c.older.invariant _ (entered (goal.at.newly-preserved c).After-put_charge))
 
 pub returns : goal.returns
-returns c = outside_end (book_of c.args.b.now) c.args.older c.args.due c.newly.i c.newly.b c.newly-test.false c.newly.invariant
+returns c = outside_end _ _ _ c.newly.i _ c.newly-test.false c.newly.invariant

@@ -3,19 +3,12 @@
 -- nothing.
 use Rattle.std.proofs.Common.{◌-◌}
 use Rattle.rules.specs.Layout.{book_of}
-use Rattle.rules.specs.declared.Book.{Book}
 use Rattle.offsetting.specs.Walk.{Walking}
 use Rattle.offsetting.specs.Bytes.{Outside, Inside}
 use Rattle.offsetting.proofs.walk.offset_rows.Given as goal
 
 abbrev pub invariant-older : goal.invariant-older
-invariant-older l = (k : Book) (w : Walking) → Inside k l.older l.i l.fresh l.at l.initial.left w l.initial.b → Inside k l.older l.i l.fresh l.at l.left w l.b
-
-abbrev pub decreases-older : goal.decreases-older
-decreases-older l = l.left
+invariant-older l = (w : Walking) → Inside (book_of l.fn.b) l.older l.i l.fresh l.at l.older w l.initial.b → Inside (book_of l.fn.b) l.older l.i l.fresh l.at (l.older - l.j) w l.b
 
 abbrev pub invariant-newly : goal.invariant-newly
 invariant-newly l = Outside (book_of l.initial.b) l.older l.due l.i l.b
-
-abbrev pub decreases-newly : goal.decreases-newly
-decreases-newly l = l.due - l.i

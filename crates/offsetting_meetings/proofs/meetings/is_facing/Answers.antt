@@ -1,12 +1,13 @@
 -- `offsetting_meetings::meetings::is_facing` meets its contract. Assumes nothing.
-use mathlib.Core.Path.{sym, ◌∙◌}
+use Rattle.std.proofs.Common.{arith}
+use Rattle.std.proofs.lemmas.Grind.{common_steps}
 use Rattle.rules.specs.Roll.{faces}
 use Rattle.offsetting_meetings.proofs.meetings.is_facing.Goals as goal
 
-pub returns-then-not-same_pair : goal.returns-then-not-same_pair
+pub returns-then-same_pair : goal.returns-then-same_pair
 unfolding faces
-returns-then-not-same_pair c = rw (sym c.same_pair.ensures ∙ c.if-not-same_pair.true)
+returns-then-same_pair c = grind (arith, common_steps)
 
-pub returns : goal.returns
+pub returns-else-same_pair : goal.returns-else-same_pair
 unfolding faces
-returns c = rw (sym c.same_pair.ensures ∙ c.if-not-same_pair.false) c.is_opposite.ensures
+returns-else-same_pair c = grind (arith, common_steps)

@@ -1,23 +1,14 @@
 -- `offsetting_meetings::meetings::is_opposite` meets its contract. Assumes nothing.
-use mathlib.Core.Path.{sym, ◌∙◌}
+use Rattle.std.proofs.Common.{arith}
+use Rattle.std.proofs.lemmas.Grind.{common_steps}
 use Rattle.rules.specs.Book.{is_zero}
 use Rattle.rules.specs.Roll.{opposite}
 use Rattle.offsetting_meetings.proofs.meetings.is_opposite.Goals as goal
 
-pub returns-then-is_zero : goal.returns-then-is_zero
+pub returns-then-not-is_zero-2 : goal.returns-then-not-is_zero-2
 unfolding opposite is_zero
-returns-then-is_zero c = rw (sym c.is_zero.ensures ∙ c.if-is_zero.true)
+returns-then-not-is_zero-2 c = grind (arith, common_steps)
 
-pub returns-then-is_zero-2 : goal.returns-then-is_zero-2
+pub returns-else-not-is_zero-2 : goal.returns-else-not-is_zero-2
 unfolding opposite is_zero
-returns-then-is_zero-2 c = rw (sym c.is_zero.ensures ∙ c.if-is_zero.false, sym c.is_zero-2.ensures ∙ c.if-is_zero-2.true)
-
-pub returns : goal.returns
-unfolding opposite is_zero
-returns c =
-    rw (
-      sym c.is_zero.ensures ∙ c.if-is_zero.false,
-      sym c.is_zero-2.ensures ∙ c.if-is_zero-2.false,
-      c.is_negative.ensures,
-      c.is_negative-2.ensures,
-    )
+returns-else-not-is_zero-2 c = grind (arith, common_steps)

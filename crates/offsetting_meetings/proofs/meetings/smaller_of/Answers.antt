@@ -1,5 +1,5 @@
 -- `offsetting_meetings::meetings::smaller_of` meets its contract. Assumes nothing.
-use native.Mathlib.Omega.{arith}
+use Rattle.std.proofs.Common.{arith}
 use Rattle.rules.specs.Roll.{smaller}
 use Rattle.offsetting_meetings.proofs.meetings.smaller_of.Goals as goal
 
@@ -7,6 +7,6 @@ pub returns-then-size : goal.returns-then-size
 unfolding smaller
 returns-then-size c = omega arith
 
-pub returns : goal.returns
+pub returns-else-size : goal.returns-else-size
 unfolding smaller
-returns c = omega arith
+returns-else-size c = omega arith

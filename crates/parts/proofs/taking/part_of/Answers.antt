@@ -1,5 +1,5 @@
 -- `parts::taking::part_of` meets its contract. Assumes nothing.
-use borrow.Author.Rules.{rules}
+use Rattle.std.proofs.Common.{rules}
 use Rattle.rules.specs.Parts.{part_money}
 use Rattle.parts.proofs.taking.part_of.Goals as goal
 

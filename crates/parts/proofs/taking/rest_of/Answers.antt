@@ -1,7 +1,5 @@
 -- `parts::taking::rest_of` meets its contract. Assumes nothing.
-use mathlib.Core.Path.{◌≡◌, ap, ◌∙◌}
-use Prim.Native.Nat.{ℕ}
-use lib.IntN.{ℤ, ◌-ℤ◌}
+use Rattle.std.proofs.Common.{◌≡◌, ap, ◌∙◌, ℕ, ℤ, ◌-ℤ◌}
 use Rattle.integers.specs.Signs.{toward_zero}
 use Rattle.units.specs.Units.{shares_of, mils_of, shares, mils}
 use Rattle.units.specs.declared.Shares.{Shares}
@@ -18,7 +16,4 @@ unfolding without
 rest_is p k q m eq em = λ i. record { number = p.number; quantity = shares (eq i); money = mils (em i) }
 
 pub returns : goal.returns
-returns c =
-    let p = c.args.p in
-    rest_is p _ _ _ c.toward_zero-quantity.ensures.0
-    (c.minus-money.ensures.0 ∙ ap (λ (z : ℤ). money_of p -ℤ z) c.part_of-gone.ensures.0)
+returns c = rest_is c.args.p _ _ _ c.toward_zero.ensures.0 (c.minus.ensures.0 ∙ ap (λ (z : ℤ). money_of c.args.p -ℤ z) c.part_of.ensures.0)

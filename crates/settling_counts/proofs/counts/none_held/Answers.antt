@@ -1,34 +1,18 @@
--- `settling_counts::counts::none_held` meets its contract. The loop's invariant: the first a accounts hold nothing. Assumes nothing.
-use borrow.Author.Rules.{rules}
-use borrow.Author.Tests.{eq-eqb, ne_eqb}
-use native.Mathlib.Omega.{arith}
-use mathlib.Core.Path.{◌≡◌}
-use lib.ListN.{length}
-use Rattle.laws.specs.Walks.{all_none, all_more, all_fails, all_done}
+-- `settling_counts::counts::none_held` meets its contract. Assumes nothing.
+use Rattle.std.proofs.Common.{◌≡◌, ℕ, Bool, List, [], ◌∷◌, rules, tests, refl, ap, ◌∙◌, ◌&&◌}
+use Rattle.std.specs.List.{list_all}
+use Rattle.std.proofs.lemmas.Iterator.{YieldsList-from_slice}
+use Rattle.std.proofs.lemmas.Iterator.Search.{all_from_yields_List}
+use Rattle.rules.specs.Words.{all}
 use Rattle.settling_counts.specs.Holders.{is_none}
 use Rattle.settling_counts.proofs.counts.none_held.Goals as goal
-use Rattle.settling_counts.proofs.counts.none_held.Lts as lts
-use Rattle.settling_counts.proofs.counts.none_held.Reads as reads
 
--- ── what is known at a place of the code, to say a fact once for several goals ──
-
-abbrev Start : Type 0
-Start = lts.Start reads.Pre reads.Post goal.the-invariant-loop-a goal.the-decreases-loop-a
-
-long : (c : Start) → length c.args.held ≡ 64
-long c = search rules
-
-pub loop-a-init : goal.loop-a-init
-loop-a-init c = (omega arith, all_none is_none c.args.held)
-
-pub returns-then-held-a-ne0 : goal.returns-then-held-a-ne0
-returns-then-held-a-ne0 c = all_fails is_none c.args.held c.loop-a.a 0 (omega (arith, long c.before.before.before, c.loop-a-test.true)) (ne_eqb _ 0 c.if-held-a-ne0.true)
-
-pub loop-a-smaller : goal.loop-a-smaller
-loop-a-smaller c = omega arith
-
-pub loop-a-preserved : goal.loop-a-preserved
-loop-a-preserved c = (omega arith, all_more is_none c.args.held c.loop-a.a 0 (omega (arith, long c.before.before.before, c.loop-a-test.true)) c.loop-a.invariant.1 (eq-eqb _ 0 c.if-held-a-ne0.false))
+-- the library's word for the rules' `all`
+all_is : (t : ℕ → Bool) (l : List ℕ) → list_all t l ≡ all t l
+unfolding all
+all_is t [] = refl
+all_is t (x ∷ l) = ap (λ (b : Bool). t x && b) (all_is t l)
 
 pub returns : goal.returns
-returns c = all_done is_none c.args.held c.loop-a.a (omega (arith, long c.before.before, c.loop-a-test.false)) c.loop-a.invariant.1
+returns c =
+    all_from_yields_List is_none _ _ _ c.all.ensures.ran (YieldsList-from_slice c.args.held.now cc) (λ x b q k. search (rules, tests)) ∙ all_is is_none c.args.held.now

@@ -5,5 +5,5 @@ use Rattle.sheet_printer.proofs.output.write_whole.Goals as goal
 
 pub loop-done-preserved : goal.loop-done-preserved
 loop-done-preserved g c =
-    let e = c.write_on-n.ensures in
+    let e = c.in_ok-done.ensures in
     (omega (arith, length-drop c.loop-done.done c.args.bytes.now, e.bounds), written_behind _ _ _ _ _ _ c.loop-done.invariant.1 e.bytes)

@@ -1,40 +1,20 @@
--- `trading::list::is_standing` meets its contract. The loop's invariant: it is none of the trades before `i`. Assumes nothing.
-use native.Mathlib.Omega.{arith}
-use mathlib.Core.Path.{sym, ap, ◌∙◌}
+-- `trading::list::is_standing` meets its contract: a walk over the list by number. Assumes nothing.
+use Rattle.std.proofs.Common.{◌&&◌, not, eqb, get_or, ◌∙◌, arith, rules, tests}
+use Rattle.std.proofs.lemmas.Iterator.{YieldsList-from_range}
+use Rattle.std.proofs.lemmas.Iterator.Search.{any_from_yields_List}
 use Rattle.rules.specs.Book.{list_of, no_trade}
 use Rattle.rules.specs.Layout.{book_of}
-use Rattle.rules.specs.Trades.{stands}
+use Rattle.rules.specs.Trades.{is_excluded, stands}
+use Rattle.rules.specs.declared.Trade.{Trade}
 use Rattle.book.specs.Views.{trades_long}
-use Rattle.laws.specs.Finding.{any_none, listed_more, listed_found, listed_done}
+use Rattle.trading.proofs.Walking.{any_listed}
 use Rattle.trading.proofs.list.is_standing.Goals as goal
-use Rattle.trading.proofs.list.is_standing.Invariants.{asked}
-
-pub loop-i-init : goal.loop-i-init
-unfolding list_of
-loop-i-init c = (omega arith, any_none (asked c.args.number) (list_of (book_of c.args.b.now)))
-
-pub returns-then-stands_as : goal.returns-then-stands_as
-unfolding list_of stands
-returns-then-stands_as c =
-    let a = c.args in
-    let k = book_of a.b.now in
-    listed_found (asked a.number) k.trades k.entries (omega (arith, trades_long a.b.now)) c.loop-i.i no_trade (omega arith)
-    (ap (asked c.args.number) (sym c.trade_at-t.ensures) ∙ sym c.stands_as.ensures ∙ c.if-stands_as.true)
-
-pub loop-i-preserved : goal.loop-i-preserved
-unfolding list_of
-loop-i-preserved c =
-    let a = c.args in
-    let k = book_of a.b.now in
-    let l = c.loop-i in (
-      omega arith,
-      listed_more (asked a.number) k.trades k.entries (omega (arith, trades_long a.b.now)) l.i no_trade (omega arith) l.invariant.1
-          (ap (asked c.args.number) (sym c.trade_at-t.ensures) ∙ sym c.stands_as.ensures ∙ c.if-stands_as.false),
-    )
 
 pub returns : goal.returns
 unfolding list_of stands
 returns c =
-    let a = c.args in
-    let k = book_of a.b.now in
-    listed_done (asked a.number) k.trades k.entries (omega (arith, trades_long a.b.now)) c.loop-i.i (omega arith) c.loop-i.invariant.1
+    let k = book_of c.args.b.now in
+    let n = c.args.number in
+    any_from_yields_List (λ i. let t = get_or k.trades i no_trade in eqb t.number n && not (is_excluded t)) _ _ _ c.any.ensures.ran
+    (YieldsList-from_range 0 k.entries k.entries (cc) (omega arith)) (λ x b q h. search (rules, tests))
+    ∙ any_listed (λ (t : Trade). eqb t.number n && not (is_excluded t)) k.trades no_trade k.entries (omega (arith, trades_long c.args.b.now))

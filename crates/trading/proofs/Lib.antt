@@ -1,0 +1,3 @@
+-- Lemmas that several proofs of this crate cite.
+pub mod Walking
+pub mod Renewing
