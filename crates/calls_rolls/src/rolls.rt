@@ -1,6 +1,5 @@
 // The day roll (document 01, "From trades to positions"; refusals 10 and 14).
 ghost use Rattle.std.specs.Prelude.{◌≡◌, false};
-ghost use Rattle.rules.specs.Layout.{book_of, bytes_of};
 ghost use Rattle.rules.specs.Refusals.{answered};
 ghost use Rattle.rules.specs.Sound.{not_sound};
 ghost use Rattle.rules.specs.Calls.{roll, answer_bytes, after_bytes};
@@ -10,14 +9,6 @@ use book::{BookBytes, day_at};
 use netting::{before_offset, with_nets};
 use offsetting::offset_due;
 use rules::Refusal;
-
-// Bytes are those of the book that they hold: of the bytes that a step left its contract may say only what book they hold.
-// (The call makes known that they are bytes.)
-fn read_back(b: &BookBytes)
-    ensures { b.now ≡ bytes_of (book_of b.now) }
-{
-    let _day = day_at(b);
-}
 
 // Every step: nets are made in a copy of the position table, all else where it stands. Right for a quiet day too, but many
 // times slower.
@@ -32,7 +23,6 @@ fn full_roll(book: &mut BookBytes) -> Result<(), Refusal>
     }
     before_offset(book, netted);
     offset_due(book);
-    read_back(book);
     Ok(())
 }
 

@@ -5,6 +5,7 @@ ghost use Rattle.rules.specs.Layout.{book_of};
 ghost use Rattle.rules.specs.Roll.{offset};
 ghost use Rattle.laws.specs.OffsetKept.{Ready};
 ghost use Rattle.parts.specs.Packing.{PackAsks};
+ghost use Rattle.book.specs.Replacing.{Holds};
 ghost use Rattle.offsetting.specs.Walk.{WalkAsks};
 ghost use Rattle.offsetting.specs.Rows.{Walked};
 
@@ -41,7 +42,7 @@ fn offset_rows(b: &mut BookBytes, older: usize, due: usize)
 // up by one.
 pub fn offset_due(b: &mut BookBytes)
     requires { Ready (book_of b.old) × PackAsks (book_of b.old) }
-    ensures { book_of b.new ≡ offset (book_of b.old) }
+    ensures { Holds b.new (offset (book_of b.old)) }
 {
     let today = day_at(b) as u32;
     let older = due_before(b, today);

@@ -4,7 +4,7 @@ ghost use Rattle.std.specs.Prelude.{◌≡◌, ◌≤◌, length};
 ghost use Rattle.rules.specs.Bounds.{most_records};
 ghost use Rattle.rules.specs.Book.{with_open};
 ghost use Rattle.rules.specs.Layout.{book_of};
-ghost use Rattle.book.specs.Replacing.{with_rows};
+ghost use Rattle.book.specs.Replacing.{Holds, with_rows};
 ghost use Rattle.parts.specs.Packing.{PackAsks, remaining_in, moved_up, cleared};
 
 use book::{BookBytes, day_at, position_at, put_position, put_records, records_at};
@@ -52,7 +52,7 @@ fn clear_rows(b: &mut BookBytes, from: usize, to: usize)
 // the book's, and the room behind them is zero.
 pub fn pack(b: &mut BookBytes)
     requires { PackAsks (book_of b.old) }
-    ensures { book_of b.new ≡ with_open (book_of b.old) (remaining_in (book_of b.old)) }
+    ensures { Holds b.new (with_open (book_of b.old) (remaining_in (book_of b.old))) }
 {
     let n = records_at(b) as usize;
     let kept = move_up(b);

@@ -34,4 +34,4 @@ pub returns : goal.returns
 returns c =
     let bs = c.args.book.now in
     accepted bs c.requires roll _ (may _ c.in_ok-netted.ensures.0 (λ z. c.if-day.false (c.day_at-day.ensures ∙ z)))
-    (c.read_back.ensures ∙ ap bytes_of (c.offset_due.ensures ∙ ap offset c.before_offset.ensures ∙ rolled_by (book_of bs)))
+    (c.offset_due.ensures.0 ∙ ap bytes_of (ap offset c.before_offset.ensures ∙ rolled_by (book_of bs)))

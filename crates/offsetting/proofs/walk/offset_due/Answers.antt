@@ -2,7 +2,7 @@
 use Rattle.std.proofs.Common.{ap, ◌∙◌, ℕ, ◌+◌, length}
 use Rattle.rules.specs.Words.{keep}
 use Rattle.rules.specs.Book.{open_of}
-use Rattle.rules.specs.Layout.{book_of}
+use Rattle.rules.specs.Layout.{book_of, bytes_of}
 use Rattle.laws.specs.DueDays.{is_older}
 use Rattle.offsetting.specs.Borders.{due_by}
 use Rattle.offsetting.specs.Result.{pack_asks, offset_is}
@@ -22,4 +22,6 @@ pub pack-requires : goal.pack-requires
 pack-requires c = pack_asks _ _ c.requires.1 c.offset_rows.ensures.beside
 
 pub returns : goal.returns
-returns c = c.pack.ensures ∙ offset_is _ _ c.offset_rows.ensures
+returns c =
+    let is = offset_is _ _ c.offset_rows.ensures in
+    (c.pack.ensures.0 ∙ ap bytes_of is, c.pack.ensures.1 ∙ is)
