@@ -1,8 +1,6 @@
 -- One record as a call of its own: its answer and the bytes that it leaves, by what stands at its place.
-use Rattle.std.specs.Prelude.{◌≡◌, Bool, true, false, ◌&&◌, ◌||◌, List, ℕ, ◌+◌, ◌≤◌, ◌<◌, eqb, leb, ltb, length, drop, pos, Result, Ok, Err}
-use Rattle.std.proofs.Math.Path.{refl, sym, ap}
-use Rattle.std.proofs.Common.{◌∙◌, arith, eq-eqb, ne_eqb, lt-ltb, le-ltb, leb-false, ltb-false}
-use Rattle.std.proofs.Math.Bool.{not}
+use Rattle.std.specs.Prelude.{◌≡◌, Bool, true, false, ◌&&◌, ◌||◌, List, ℕ, ◌+◌, ◌≤◌, ◌<◌, eqb, leb, ltb, length, drop, pos, Result, Ok, Err, refl, not}
+use Rattle.std.proofs.Common.{sym, ap, ◌∙◌, arith, eq-eqb, ne_eqb, lt-ltb, le-ltb, leb-false, ltb-false}
 use Rattle.units.specs.Units.{shares}
 use Rattle.units.specs.declared.Shares.{Shares}
 use Rattle.rules.specs.Bounds.{most_file}

@@ -1,12 +1,6 @@
 -- What stands at a place is done by its call: the answer and the bytes of the record, from those of the call.
-use Rattle.std.specs.Prelude.{◌≡◌, true, false, ◌&&◌, eqb, take, drop, pos, Result, Ok, Err}
-use Rattle.std.proofs.Math.Path.{refl, ap, subst}
-use Rattle.std.proofs.Common.{sym, ◌∙◌}
-use mathlib.Core.List.{List, []}
-use Prim.Native.Nat.{ℕ, ◌+◌, ◌-◌, ◌≤◌}
-use native.Mathlib.Omega.{arith}
-use Rattle.std.proofs.Math.ListN.{length, length-take, length-drop}
-use borrow.Author.Tests.{eq-eqb, eqb-true}
+use Rattle.std.specs.Prelude.{◌≡◌, refl, true, false, ◌&&◌, List, [], ℕ, ◌+◌, ◌≤◌, eqb, length, drop, pos, Result}
+use Rattle.std.proofs.Common.{sym, ap, subst, ◌∙◌, arith, length-take, length-drop, eq-eqb, eqb-true}
 use Rattle.units.specs.Units.{shares}
 use Rattle.units.specs.declared.Shares.{Shares}
 use Rattle.rules.specs.Words.{all, first}
@@ -15,7 +9,7 @@ use Rattle.rules.specs.Book.{empty_book}
 use Rattle.rules.specs.Layout.{book_length, book_of, bytes_of}
 use Rattle.rules.specs.Sound.{is_code}
 use Rattle.rules.specs.Calls.{Call, run, figure, answer_bytes, figure_bytes, after_bytes, run_answer, create_tests, create_answer, create_bytes}
-use Rattle.rules.specs.Records.{Record, create, call, unreadable, length_of, in_place, record_at}
+use Rattle.rules.specs.Records.{Record, create, call, unreadable, length_of, in_place, record_at, file_refused}
 use Rattle.rules.specs.CallFile.{is_unreadable}
 use Rattle.rules.specs.declared.RecordAnswer.{RecordAnswer}
 use Rattle.rules.specs.declared.RecordAnswer.TheVariants.{Answered, Unreadable}
@@ -60,45 +54,45 @@ module _ (book file : List ℕ) (place : ℕ) (r : Ready book file place) where
   abbrev next : ℕ
   next = place + 2 + length_of (drop place file)
 
-  readable : is_unreadable (record_at file place) ≡ false → place + 2 ≤ length file
-  readable n = omega (arith, body_there file place n)
+  taken : file_refused book file ≡ false
+  taken = not_refused book file place r.short r.long
 
   pub none_done : unreadable ≡ record_at file place → Done book file place (Unreadable place) book
-  none_done e = none_there book file place (not_refused book file place r.short r.long) r.ours r.there (sym e)
+  none_done e = none_there book file place taken r.ours r.there (sym e)
 
-  pub call_done : (c : Call) (n m : ℕ) (a : RecordAnswer) (new : List ℕ) → call c ≡ record_at file place → figure (book_of book) c ≡ 0 → n ≡ answer_bytes book c
-      → (place + 2 ≤ length file → m ≡ next) → a ≡ Answered n (shares (pos 0)) m → new ≡ after_bytes book c → Done book file place a new
-  unfolding is_unreadable
-  call_done c n m a new e z en em ea f =
-      subst (λ (x : RecordAnswer). Done book file place x new) (sym ea)
-      (call_there book file place (not_refused book file place r.short r.long) r.ours r.there c n (shares (pos 0)) m new (sym e) en
-      (ap (λ (k : ℕ). shares (pos k)) (sym (no_figure book c z))) (em (readable (ap is_unreadable (sym e)))) f)
+  pub call_done : (c : Call) (n m : ℕ) (a : RecordAnswer) (new : List ℕ) → call c ≡ record_at file place → figure (book_of book) c ≡ 0
+      → (n ≡ answer_bytes book c) × (new ≡ after_bytes book c) → m ≡ next → a ≡ Answered n (shares (pos 0)) m → Done book file place a new
+  call_done c n m a new e z d em ea =
+      rw ea
+      (call_there book file place taken r.ours r.there c n (shares (pos 0)) m new (sym e) d.0
+      (ap (λ (k : ℕ). shares (pos k)) (sym (no_figure book c z))) em d.1)
 
   pub run_done : (s m : ℕ) (t : Result Shares ℕ) (a : RecordAnswer) (new : List ℕ) → call (run s) ≡ record_at file place → t ≡ run_answer book s
-      → (place + 2 ≤ length file → m ≡ next) → a ≡ ran_as t m → new ≡ after_bytes book (run s) → Done book file place a new
-  unfolding is_unreadable
-  run_done s m t a new e et em ea f =
-      subst (λ (x : RecordAnswer). Done book file place x new) (sym (ea ∙ ap (λ (y : Result Shares ℕ). ran_as y m) et ∙ ran_is book s m))
-      (call_there book file place (not_refused book file place r.short r.long) r.ours r.there (run s) (answer_bytes book (run s))
-      (shares (pos (figure_bytes book (run s)))) m new (sym e) refl refl (em (readable (ap is_unreadable (sym e)))) f)
+      → new ≡ after_bytes book (run s) → m ≡ next → a ≡ ran_as t m → Done book file place a new
+  run_done s m t a new e et f em ea =
+      rw (ea, et, ran_is book s m)
+      (call_there book file place taken r.ours r.there (run s) (answer_bytes book (run s))
+      (shares (pos (figure_bytes book (run s)))) m new (sym e) refl refl em f)
 
   module _ (e : create (codes_at place file) ≡ record_at file place) where
     pub codes_there : place + 35 ≤ length file
     unfolding is_unreadable
     codes_there = omega (arith, body_there file place (ap is_unreadable (sym e)), create_long file place (codes_at place file) (sym e))
 
-    created : create_bytes book (codes_at place file) ≡ bytes_of (empty_book (codes_at place file))
-    unfolding create_bytes create_answer create_tests first record_at
-    created =
+    accepted : create_answer book (codes_at place file) ≡ 0
+    unfolding create_answer create_tests first record_at
+    accepted =
         let codes : List ℕ = codes_at place file in
         let l : length codes ≡ securities = omega (arith, length-take 32 (drop (place + 3) file), length-drop (place + 3) file, codes_there) in
         rw (eq-eqb (length book) book_length r.long, eq-eqb (length codes) securities l, good_codes place _ codes (sym e))
 
-    pub create_done : (m : ℕ) (a : RecordAnswer) (new : List ℕ) → (place + 2 ≤ length file → m ≡ next) → a ≡ Answered 0 (shares (pos 0)) m
-        → new ≡ create_bytes book (take (place + 35 - (place + 3)) (drop (place + 3) file)) → Done book file place a new
-    unfolding is_unreadable
-    create_done m a new em ea f =
-        let g : place + 35 - (place + 3) ≡ 32 = omega arith in
-        subst (λ (x : RecordAnswer). Done book file place x new) (sym ea)
-        (create_there book file place (not_refused book file place r.short r.long) r.ours r.there (codes_at place file) (shares (pos 0)) m new (sym e) refl
-        (em (readable (ap is_unreadable (sym e)))) (f ∙ ap (λ (n : ℕ). create_bytes book (take n (drop (place + 3) file))) g ∙ created))
+    created : create_bytes book (codes_at place file) ≡ bytes_of (empty_book (codes_at place file))
+    unfolding create_bytes
+    created = cond_yes _ _ (eq-eqb _ 0 accepted)
+
+    pub create_done : (codes : List ℕ) → codes ≡ codes_at place file → (n m : ℕ) (a : RecordAnswer) (new : List ℕ)
+        → (n ≡ create_answer book codes) × (new ≡ create_bytes book codes) → m ≡ next → a ≡ Answered n (shares (pos 0)) m → Done book file place a new
+    create_done codes ec n m a new d em ea =
+        rw (ea, d.0 ∙ ap (create_answer book) ec ∙ accepted)
+        (create_there book file place taken r.ours r.there (codes_at place file) (shares (pos 0)) m new (sym e) refl em
+        (d.1 ∙ ap (create_bytes book) ec ∙ created))

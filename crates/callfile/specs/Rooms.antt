@@ -1,14 +1,6 @@
 -- A record that can be read stands whole in its file.
-use Rattle.std.specs.Prelude.{◌≡◌, refl, Bool, true, cond, ◌&&◌, ltb, length}
-use Rattle.std.proofs.Common.{sym, ◌∙◌}
-use Rattle.std.proofs.Math.Path.{ap}
-use Rattle.std.proofs.Math.Bool.{false}
-use mathlib.Core.List.{List, [], ◌∷◌}
-use Prim.Native.Nat.{ℕ, ◌+◌, ◌≤◌}
-use native.Mathlib.Omega.{arith}
-use Rattle.std.proofs.Math.Dec.{eqb}
-use Rattle.std.proofs.Math.ListN.{take, drop, length-take, length-drop}
-use borrow.Author.Tests.{ltb-false, eqb-true}
+use Rattle.std.specs.Prelude.{◌≡◌, refl, Bool, true, cond, ◌&&◌, ltb, length, false, List, [], ◌∷◌, ℕ, ◌+◌, ◌≤◌, eqb, take, drop}
+use Rattle.std.proofs.Common.{sym, ◌∙◌, ap, arith, length-take, length-drop, ltb-false, eqb-true}
 use Rattle.fields.specs.Field.{field}
 use Rattle.rules.specs.Calls.{Call}
 use Rattle.rules.specs.Records.{Record, create, call, unreadable, length_of, Form, forms_of, read_as, is_cut, front_of, record_at, in_place}

@@ -14,18 +14,22 @@ use callfile_format::{Read, next_of, other_version, past_end, record_at};
 use rules::{RecordAnswer, Refusal, number_of};
 use units::{Shares, Whole};
 
-// The answer of a call that has no figure.
+// The answer of a call that has no figure. (A `RecordAnswer` holds the number of a refusal: document 01's definitions of its number, figure and
+// next place are of that, and its theorems speak of them.)
 fn answer_of(answer: Result<(), Refusal>, next: u32) -> RecordAnswer
     ensures { result ≡ Answered (answered answer) (shares (pos 0)) next }
 {
     RecordAnswer::Answered(number_of(&answer), Shares(Whole(0)), next)
 }
 
+#[tactic(auto, unfolding(crate::specs::Answering::ran_as))]
 fn ran(answer: Result<Shares, Refusal>, next: u32) -> RecordAnswer
     ensures { result ≡ ran_as (numbered answer) next }
 {
-    let moved = answer.unwrap_or(Shares(Whole(0)));
-    RecordAnswer::Answered(number_of(&answer), moved, next)
+    match answer {
+        Ok(moved) => RecordAnswer::Answered(0, moved, next),
+        Err(r) => RecordAnswer::Answered(u8::from(r), Shares(Whole(0)), next),
+    }
 }
 
 // What stands at the place is done, and answered.
@@ -34,13 +38,18 @@ fn applied(book: &mut [u8], file: &[u8], place: u32, found: Option<Read>) -> Rec
     ensures { (result ≡ record_answer book.old file.now place)
         × (book.new ≡ record_bytes book.old file.now place) }
 {
-    let (Some(found), Some(next)) = (found, next_of(file, place)) else {
+    let Some(found) = found else {
+        return RecordAnswer::Unreadable(place);
+    };
+    // A record that can be read has its length, so that the next place is known.
+    let Some(next) = next_of(file, place) else {
         return RecordAnswer::Unreadable(place);
     };
     match found {
         Read::Create => {
             let at = place as usize;
-            answer_of(house::create(book, &file[at + 3..at + 35]), next)
+            let codes = &file[at + 3..at + 35];
+            answer_of(house::create(book, codes), next)
         }
         Read::Enter(t) => answer_of(house::enter(book, t), next),
         Read::Amend(t) => answer_of(house::amend(book, t), next),

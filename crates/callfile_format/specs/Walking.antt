@@ -1,8 +1,6 @@
 -- The records of a file, as the code walks them: from the record at a place to the next, until one is unreadable or the file ends.
-use Rattle.std.specs.Prelude.{◌≡◌, cond, List, [], ◌∷◌, ℕ, suc, ◌+◌, ◌≤◌, ◌<◌, length, get_or}
-use Rattle.std.proofs.Math.Path.{sym, ap}
-use Rattle.std.proofs.Common.{◌∙◌, arith, drop_of_length-le, drop-cons, drop-drop}
-use Rattle.std.proofs.Math.ListN.{drop}
+use Rattle.std.specs.Prelude.{◌≡◌, cond, List, [], ◌∷◌, ℕ, suc, ◌+◌, ◌≤◌, ◌<◌, length, get_or, drop}
+use Rattle.std.proofs.Common.{sym, ap, ◌∙◌, arith, drop_of_length-le, drop-cons, drop-drop}
 use Rattle.rules.specs.Records.{length_of, record_at}
 use Rattle.rules.specs.CallFile.{Placed, is_unreadable, records_from}
 use Rattle.laws.specs.Files.{records_skip}

@@ -1,12 +1,7 @@
 -- The record calls of a file, one after another, give the answers and the book of the whole file. Statements: `record_by_record`, `refused_at_once`, and of the
 -- whole file in one call `whole_book` and `whole_answers_lem`.
-use Rattle.std.specs.Prelude.{◌≡◌, true, false, leb, length}
-use Rattle.std.proofs.Math.Path.{refl, sym, ap, ap₂}
-use Rattle.std.proofs.Common.{subst, ◌∙◌, arith}
-use mathlib.Core.List.{List, ◌++◌}
-use Prim.Native.Nat.{ℕ, zero, suc, ◌+◌, ◌≤◌, ◌<◌}
-use Rattle.std.proofs.Math.ListN.{drop}
-use borrow.Author.Tests.{eq-eqb, leb-true, leb-false, lt-ltb, le-leb, lt-leb}
+use Rattle.std.proofs.Common.{◌≡◌, true, false, leb, length, refl, sym, ap, ap₂, subst, ◌∙◌, arith, List, ◌++◌, ℕ, zero, suc, ◌+◌, ◌≤◌, ◌<◌, drop, eq-eqb, leb-true, leb-false, lt-ltb, le-leb}
+use borrow.Author.Tests.{lt-leb}
 use Rattle.fields.specs.Field.{Bytes}
 use Rattle.rules.specs.Book.{empty_book}
 use Rattle.rules.specs.Layout.{book_length, book_of, bytes_of}

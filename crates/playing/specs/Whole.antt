@@ -1,10 +1,6 @@
 -- The whole file as one call, by the ways that the code takes.
-use Rattle.std.specs.Prelude.{◌≡◌, true, false, ℕ, ◌+◌, ◌*◌, ◌≤◌, ◌<◌, length, drop}
-use Rattle.std.proofs.Math.Path.{refl, ap}
-use Rattle.std.proofs.Common.{sym, subst, ◌∙◌, arith, length-append}
-use Rattle.std.proofs.Math.Option.{some, none}
-use mathlib.Core.List.{List, [], ◌++◌}
-use borrow.Author.Tests.{eq-eqb, ne_eqb, lt-ltb, le-ltb}
+use Rattle.std.specs.Prelude.{◌≡◌, true, false, ℕ, ◌+◌, ◌*◌, ◌≤◌, ◌<◌, length, drop, refl, List, [], ◌++◌, Some, None}
+use Rattle.std.proofs.Common.{ap, sym, subst, ◌∙◌, arith, length-append, eq-eqb, ne_eqb, lt-ltb, le-ltb}
 use Rattle.fields.specs.Field.{Bytes, digits, stored}
 use Rattle.fields.specs.FieldLaws.{after, stored_none, stored_eq}
 use Rattle.rules.specs.Words.{each}
@@ -37,7 +33,7 @@ unfolding answers_of text_of
 answers_size file = text_long (file_of file).answers
 
 -- nothing was read: the one answer is 19
-module _ (file : List ℕ) (p : ℕ) (e : contents_of file ≡ record { codes = none; calls = []; place = some p }) where
+module _ (file : List ℕ) (p : ℕ) (e : contents_of file ≡ record { codes = None; calls = []; place = Some p }) where
   pub one_room : 9 ≤ length (answers_of file)
   one_room = omega (arith, answers_size file, ap (λ (q : Played). length q.answers) (unread file p e))
 
@@ -52,7 +48,7 @@ module _ (file : List ℕ) (p : ℕ) (e : contents_of file ≡ record { codes = 
 
 -- a create was read
 module _ (file codes : List ℕ) (ours : other_version file ≡ false) (first : record_at file 1 ≡ create codes) where
-  says_first : contents_of file ≡ record { codes = some codes; calls = (left_at file 36).calls; place = (left_at file 36).place }
+  says_first : contents_of file ≡ record { codes = Some codes; calls = (left_at file 36).calls; place = (left_at file 36).place }
   says_first = create_first file ours codes first
 
   text_begun : answers_of file ≡ nine 0 0 ++ text_left (empty_book codes) (left_at file 36)

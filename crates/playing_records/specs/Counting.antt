@@ -1,8 +1,6 @@
 -- Counting the answers of a file: one for each record, from place to place.
-use Rattle.std.specs.Prelude.{◌≡◌, refl, true, false, cond, List, [], ◌∷◌, ℕ, ◌+◌, ◌-◌, ◌≤◌, ◌<◌, zero, suc, drop}
-use Rattle.std.proofs.Math.Path.{sym, ap}
-use Rattle.std.proofs.Common.{◌∙◌, arith}
-use Rattle.std.proofs.Math.ListN.{length}
+use Rattle.std.specs.Prelude.{◌≡◌, refl, true, false, cond, List, [], ◌∷◌, ℕ, ◌+◌, ◌-◌, ◌≤◌, ◌<◌, zero, suc, drop, length}
+use Rattle.std.proofs.Common.{sym, ap, ◌∙◌, arith}
 use Rattle.rules.specs.Book.{empty_book}
 use Rattle.rules.specs.Records.{Record, create, call, unreadable, front_of, record_at, other_version, in_place, length_of}
 use Rattle.rules.specs.CallFile.{Played, is_unreadable, file_of, Placed, records_from, records_in, before, contents, nineteen}

@@ -1,7 +1,6 @@
 -- What stands first in a file: another version, nothing that can be read, or a create with calls behind it; and so its answers and its book.
-use Rattle.std.specs.Prelude.{◌≡◌, Option, Some, None, is_none, Bool, true, false, ◌&&◌, List, [], ◌∷◌, ℕ, ◌*◌, ◌≤◌, eqb, length, drop}
-use Rattle.std.proofs.Math.Path.{refl, sym, ap}
-use Rattle.std.proofs.Common.{◌∙◌, arith, length-append, eqb-true}
+use Rattle.std.specs.Prelude.{◌≡◌, Option, Some, None, is_some, Bool, true, false, ◌&&◌, List, [], ◌∷◌, ℕ, ◌*◌, ◌≤◌, eqb, length, drop, refl}
+use Rattle.std.proofs.Common.{sym, ap, ◌∙◌, arith, length-append, eqb-true}
 use Rattle.rules.specs.Words.{all, each}
 use Rattle.rules.specs.Sound.{is_code}
 use Rattle.rules.specs.Book.{empty_book}
@@ -49,9 +48,9 @@ module _ (file codes : List ℕ) where
   unfolding record_at is_call
   not_call c e = true_false (sym (ap is_call e)) (no_first (front_of (drop 1 file)))
 
-  pub first_create : (r : Option Read) → says r codes ≡ record_at file 1 → is_none r ≡ false → record_at file 1 ≡ create codes
+  pub first_create : (r : Option Read) → says r codes ≡ record_at file 1 → is_some r ≡ true → record_at file 1 ≡ create codes
   unfolding says
-  first_create None e n = true_false refl n
+  first_create None e n = true_false n refl
   first_create (Some read.Create) e n = sym e
   first_create (Some (read.Enter t)) e n = not_call _ e
   first_create (Some (read.Amend t)) e n = not_call _ e

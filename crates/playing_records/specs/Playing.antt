@@ -1,9 +1,6 @@
 -- The calls behind the create meet the book one after another, over lent bytes: what is left decides the answers and the book at the end.
-use Rattle.std.specs.Prelude.{◌≡◌, Option, false, ℕ, ◌+◌, ◌≤◌, ◌<◌}
-use Rattle.std.proofs.Math.Path.{refl, sym, ap, ap₂, subst}
-use Rattle.std.proofs.Common.{◌∙◌, arith, length-append, eq-eqb}
-use mathlib.Core.List.{List, [], ◌∷◌, ◌++◌}
-use Rattle.std.proofs.Math.ListN.{length}
+use Rattle.std.specs.Prelude.{◌≡◌, Option, false, ℕ, ◌+◌, ◌≤◌, ◌<◌, refl, List, [], ◌∷◌, ◌++◌, length}
+use Rattle.std.proofs.Common.{sym, ap, ap₂, subst, ◌∙◌, arith, length-append, eq-eqb}
 use Rattle.fields.specs.Field.{digits, stored}
 use Rattle.fields.specs.FieldLaws.{after, length_digits, length_stored, stored_none}
 use Rattle.rules.specs.Words.{each}

@@ -1,8 +1,6 @@
 -- The walk over a call file behind its create: what stands at a place is a call, with more behind it, or unreadable, and then the walk ends.
-use Rattle.std.specs.Prelude.{◌≡◌, Option, Some, None, is_none, Bool, true, false, cond, List, [], ◌∷◌, ℕ, ◌+◌, ◌≤◌, ◌<◌, eqb, ltb, length, take, drop}
-use Rattle.std.proofs.Math.Path.{refl, sym, ap}
-use Rattle.std.proofs.Common.{◌∙◌, arith, length-take, ltb-false, ne_eqb}
-use Rattle.std.proofs.Math.ListN.{length-drop}
+use Rattle.std.specs.Prelude.{◌≡◌, Option, Some, None, is_some, is_none, Bool, true, false, cond, List, [], ◌∷◌, ℕ, ◌+◌, ◌≤◌, ◌<◌, eqb, ltb, length, take, drop, refl}
+use Rattle.std.proofs.Common.{sym, ap, ◌∙◌, arith, length-take, ltb-false, ne_eqb, length-drop}
 use Rattle.fields.specs.Field.{field}
 use Rattle.fields.specs.Codec.{field_at}
 use Rattle.rules.specs.Calls.{Call}
@@ -29,10 +27,10 @@ none_says (Some (read.Deposit a s q)) codes = refl
 none_says (Some (read.Withdraw a s q)) codes = refl
 none_says (Some (read.Run s)) codes = refl
 
-pub none_there : (r : Option Read) (codes : List ℕ) (found : Record) → says r codes ≡ found → is_none r ≡ true → found ≡ unreadable
+pub none_there : (r : Option Read) (codes : List ℕ) (found : Record) → says r codes ≡ found → is_some r ≡ false → found ≡ unreadable
 unfolding says
 none_there None codes found e n = sym e
-none_there (Some r) codes found e n = true_false n refl
+none_there (Some r) codes found e n = true_false refl n
 
 -- ── where the next record begins ──
 

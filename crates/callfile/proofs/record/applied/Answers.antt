@@ -1,84 +1,75 @@
 -- `callfile::record::applied` meets its contract: record by record. Assumes nothing.
-use borrow.Author.Rules.{rules}
-use mathlib.Core.Path.{refl, sym, ap, ◌∙◌}
+use Rattle.std.proofs.Common.{ℕ, ◌+◌, ◌-◌, ◌≡◌, take, drop, refl, ap, arith, rules}
 use Rattle.rules.specs.Calls.{figure}
-use Rattle.callfile_format.specs.declared.reading.Read.{Read}
-use Rattle.callfile_format.specs.Bodies.{codes_at}
-use Rattle.callfile_format.specs.Reading.{says}
+use Rattle.callfile_format.specs.Kinds.{short_at}
+use Rattle.callfile_format.specs.Reading.{says, is_none}
 use Rattle.callfile.specs.Answering.{place_small}
 use Rattle.callfile.specs.Applying.{none_done, call_done, run_done, codes_there, create_done}
 use Rattle.callfile.proofs.record.applied.Goals as goal
 
-pub next_of-next-requires : goal.next_of-next-requires
-next_of-next-requires c = place_small _ _ _ c.requires.0
-
-pub slice_bounds-create-end : goal.slice_bounds-create-end
+pub returns-in_default : goal.returns-in_default
 unfolding says
-slice_bounds-create-end c =
+returns-in_default c = none_done _ _ _ c.requires.0 (rw c.in_default.is at c.requires.1)
+
+pub next_of-requires : goal.next_of-requires
+next_of-requires c = place_small _ _ _ c.requires.0
+
+pub returns-in_default-next_of : goal.returns-in_default-next_of
+unfolding says
+returns-in_default-next_of c =
     let a = c.args in
-    let e = ap (λ (f : Read). says f (codes_at a.place a.file.now)) (sym c.in-Create.is) ∙ c.requires.1 in
-    let h = codes_there a.book.now a.file.now a.place c.requires.0 e in
-    search rules
+    none_done _ _ _ c.requires.0 (is_none a.place a.file.now (short_at a.place a.file.now c.in_default-next_of.ensures))
+
+pub slice_bounds-codes-end : goal.slice_bounds-codes-end
+unfolding says
+slice_bounds-codes-end c = let h = codes_there _ _ _ c.requires.0 (rw (c.in-Some.is, c.in-Create.is) at c.requires.1) in search rules
 
 pub returns-in-Create : goal.returns-in-Create
 unfolding says
 returns-in-Create c =
     let a = c.args in
-    let e = ap (λ (f : Read). says f (codes_at a.place a.file.now)) (sym c.in-Create.is) ∙ c.requires.1 in
-    create_done a.book.now a.file.now a.place c.requires.0 e _ _ _ c.next_of-next.ensures c.answered.ensures c.create.ensures.1
+    let n : a.place + 35 - (a.place + 3) ≡ 32 = omega arith in
+    create_done _ _ _ c.requires.0 (rw (c.in-Some.is, c.in-Create.is) at c.requires.1) _ (ap (λ (n : ℕ). take n (drop (a.place + 3) a.file.now)) n) _ _ _ _
+    c.create.ensures c.in-Some-next_of.ensures.1 c.answer_of.ensures
 
 pub returns-in-Enter : goal.returns-in-Enter
 unfolding says figure
 returns-in-Enter c =
-    let a = c.args in
-    let e = ap (λ (f : Read). says f (codes_at a.place a.file.now)) (sym c.in-Enter.is) ∙ c.requires.1 in
-    call_done a.book.now a.file.now a.place c.requires.0 _ _ _ _ _ e refl c.enter.ensures.0 c.next_of-next.ensures c.answered-in-Enter.ensures c.enter.ensures.1
+    call_done _ _ _ c.requires.0 _ _ _ _ _ (rw (c.in-Some.is, c.in-Enter.is) at c.requires.1) refl
+    c.enter.ensures c.in-Some-next_of.ensures.1 c.answer_of-in-Enter.ensures
 
 pub returns-in-Amend : goal.returns-in-Amend
 unfolding says figure
 returns-in-Amend c =
-    let a = c.args in
-    let e = ap (λ (f : Read). says f (codes_at a.place a.file.now)) (sym c.in-Amend.is) ∙ c.requires.1 in
-    call_done a.book.now a.file.now a.place c.requires.0 _ _ _ _ _ e refl c.amend.ensures.0 c.next_of-next.ensures c.answered-in-Amend.ensures c.amend.ensures.1
+    call_done _ _ _ c.requires.0 _ _ _ _ _ (rw (c.in-Some.is, c.in-Amend.is) at c.requires.1) refl
+    c.amend.ensures c.in-Some-next_of.ensures.1 c.answer_of-in-Amend.ensures
 
 pub returns-in-Exclude : goal.returns-in-Exclude
 unfolding says figure
 returns-in-Exclude c =
-    let a = c.args in
-    let e = ap (λ (f : Read). says f (codes_at a.place a.file.now)) (sym c.in-Exclude.is) ∙ c.requires.1 in
-    call_done a.book.now a.file.now a.place c.requires.0 _ _ _ _ _ e refl c.exclude.ensures.0 c.next_of-next.ensures c.answered-in-Exclude.ensures c.exclude.ensures.1
+    call_done _ _ _ c.requires.0 _ _ _ _ _ (rw (c.in-Some.is, c.in-Exclude.is) at c.requires.1) refl
+    c.exclude.ensures c.in-Some-next_of.ensures.1 c.answer_of-in-Exclude.ensures
 
 pub returns-in-Roll : goal.returns-in-Roll
 unfolding says figure
 returns-in-Roll c =
-    let a = c.args in
-    let e = ap (λ (f : Read). says f (codes_at a.place a.file.now)) (sym c.in-Roll.is) ∙ c.requires.1 in
-    call_done a.book.now a.file.now a.place c.requires.0 _ _ _ _ _ e refl c.roll.ensures.0 c.next_of-next.ensures c.answered-in-Roll.ensures c.roll.ensures.1
+    call_done _ _ _ c.requires.0 _ _ _ _ _ (rw (c.in-Some.is, c.in-Roll.is) at c.requires.1) refl
+    c.roll.ensures c.in-Some-next_of.ensures.1 c.answer_of-in-Roll.ensures
 
 pub returns-in-Deposit : goal.returns-in-Deposit
 unfolding says figure
 returns-in-Deposit c =
-    let a = c.args in
-    let e = ap (λ (f : Read). says f (codes_at a.place a.file.now)) (sym c.in-Deposit.is) ∙ c.requires.1 in
-    call_done a.book.now a.file.now a.place c.requires.0 _ _ _ _ _ e refl c.deposit.ensures.0 c.next_of-next.ensures c.answered-in-Deposit.ensures c.deposit.ensures.1
+    call_done _ _ _ c.requires.0 _ _ _ _ _ (rw (c.in-Some.is, c.in-Deposit.is) at c.requires.1) refl
+    c.deposit.ensures c.in-Some-next_of.ensures.1 c.answer_of-in-Deposit.ensures
 
 pub returns-in-Withdraw : goal.returns-in-Withdraw
 unfolding says figure
 returns-in-Withdraw c =
-    let a = c.args in
-    let e = ap (λ (f : Read). says f (codes_at a.place a.file.now)) (sym c.in-Withdraw.is) ∙ c.requires.1 in
-    call_done a.book.now a.file.now a.place c.requires.0 _ _ _ _ _ e refl c.withdraw.ensures.0 c.next_of-next.ensures c.answered-in-Withdraw.ensures c.withdraw.ensures.1
+    call_done _ _ _ c.requires.0 _ _ _ _ _ (rw (c.in-Some.is, c.in-Withdraw.is) at c.requires.1) refl
+    c.withdraw.ensures c.in-Some-next_of.ensures.1 c.answer_of-in-Withdraw.ensures
 
 pub returns-in-Run : goal.returns-in-Run
 unfolding says
 returns-in-Run c =
-    let a = c.args in
-    let e = ap (λ (f : Read). says f (codes_at a.place a.file.now)) (sym c.in-Run.is) ∙ c.requires.1 in
-    run_done a.book.now a.file.now a.place c.requires.0 _ _ _ _ _ e c.run.ensures.0 c.next_of-next.ensures c.ran.ensures c.run.ensures.1
-
-pub returns-in-Unreadable : goal.returns-in-Unreadable
-unfolding says
-returns-in-Unreadable c =
-    let a = c.args in
-    let e = ap (λ (f : Read). says f (codes_at a.place a.file.now)) (sym c.in-Unreadable.is) ∙ c.requires.1 in
-    none_done a.book.now a.file.now a.place c.requires.0 e
+    run_done _ _ _ c.requires.0 _ _ _ _ _ (rw (c.in-Some.is, c.in-Run.is) at c.requires.1)
+    c.run.ensures.0 c.run.ensures.1 c.in-Some-next_of.ensures.1 c.ran.ensures

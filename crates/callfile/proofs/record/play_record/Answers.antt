@@ -1,5 +1,5 @@
 -- `callfile::record::play_record` meets its contract: the file's refusals, another version, the end, and what stands there. Assumes nothing.
-use mathlib.Core.Path.{sym, ◌∙◌}
+use Rattle.std.proofs.Common.{sym, ◌∙◌}
 use Rattle.callfile.specs.Answering.{file_long, book_wrong, not_refused, version_other, file_ends, told}
 use Rattle.callfile.proofs.record.play_record.Goals as goal
 

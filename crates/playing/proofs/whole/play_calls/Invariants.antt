@@ -1,6 +1,5 @@
 -- `playing::whole::play_calls` meets its contract: what is left decides the answers and the book at the end. Assumes nothing.
-use Prim.Native.Nat.{◌-◌}
-use lib.ListN.{length}
+use Rattle.std.proofs.Common.{◌-◌, length}
 use Rattle.playing_records.specs.Playing.{State, end_book, end_answers}
 use Rattle.playing_records.specs.Again.{Refuses}
 use Rattle.playing.proofs.whole.play_calls.Given as goal
