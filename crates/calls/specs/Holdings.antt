@@ -3,7 +3,7 @@ use Rattle.std.specs.Prelude.{◌≡◌, Bool, true, false, cond, ◌||◌, ℕ,
 use Rattle.std.proofs.Math.Path.{sym, ap}
 use Rattle.std.proofs.Common.{◌∙◌, arith}
 use mathlib.Core.List.{List, [], ◌∷◌}
-use borrow.Author.Tests.{ltb-false, lt-ltb, le-ltb, leb-true, leb-false, eq-eqb, ne_eqb}
+use borrow.Author.Tests.{ltb-false, lt-ltb, le-ltb, leb-true, leb-false, ne_eqb}
 use Rattle.std.proofs.Math.Dec.{ltb}
 use Rattle.rules.specs.Words.{all, Test, first, above}
 use Rattle.rules.specs.Bounds.{accounts, securities, last_account, last_security, most_held, most_deposited}
@@ -12,7 +12,7 @@ use Rattle.rules.specs.Sound.{sound, totals_held, total_held, holdings_fit}
 use Rattle.rules.specs.Trades.{no_account, no_security, bad_security}
 use Rattle.rules.specs.Calls.{deposit, withdraw, bad_deposit, holding_tests, tests, answer_sound, after}
 use Rattle.rules.specs.declared.Book.{Book}
-use Rattle.laws.specs.Cases.{both_hold, neither, cond_yes, cond_no}
+use Rattle.laws.specs.Cases.{both_hold, neither, cond_no}
 use Rattle.laws.specs.Walks.{all_at}
 use Rattle.laws.specs.Accepted.{passed, MayHold}
 use Rattle.laws.specs.SoundParts.{sound_parts}
@@ -48,10 +48,10 @@ module _ (k : Book) (a s q : ℕ) where
   unfolding common_refusal holding_tests
   common_by e₂ e₃ e₄ = rw (e₂, e₃, e₄)
 
-  pub common_passed : common_refusal k a s q ≡ 0 → (a < accounts) × ((s < securities) × (q ≤ most_deposited))
+  pub common_passed : 0 ≡ common_refusal k a s q → (a < accounts) × ((s < securities) × (q ≤ most_deposited))
   unfolding common_refusal holding_tests no_account bad_security no_security bad_deposit
   common_passed e =
-      let x = passed (ltb last_account a) 1 _ e in
+      let x = passed (ltb last_account a) 1 _ (sym e) in
       let y = passed (ltb last_security s || unlisted k s) 2 _ x.1 in
       let z = passed (ltb q 1 || ltb most_deposited q) 3 [] y.1 in
       let u = neither (ltb last_security s) (unlisted k s) y.0 in
@@ -64,20 +64,20 @@ module _ (k : Book) (a s q : ℕ) where
   unfolding answer_sound tests
   deposit_stops n e z = sym (common_then _ n e ∙ cond_no _ n (ne_eqb n 0 z))
 
-  deposit_goes : (n : ℕ) → n ≡ common_refusal k a s q → n ≡ 0 → answer_sound k (deposit a s q) ≡ first ((above most_held (total_held k.holdings s + q), 12) ∷ [])
+  deposit_goes : 0 ≡ common_refusal k a s q → answer_sound k (deposit a s q) ≡ first ((above most_held (total_held k.holdings s + q), 12) ∷ [])
   unfolding answer_sound tests
-  deposit_goes n e z = common_then _ n e ∙ cond_yes _ n (eq-eqb n 0 z)
+  deposit_goes e = common_then _ 0 e
 
   -- the total against the most that it may be, m
-  pub deposit_over : (n m : ℕ) → n ≡ common_refusal k a s q → n ≡ 0 → m + q ≡ most_held → leb (total_held k.holdings s) m ≡ false → 12 ≡ answer_sound k (deposit a s q)
+  pub deposit_over : (m : ℕ) → 0 ≡ common_refusal k a s q → m + q ≡ most_held → leb (total_held k.holdings s) m ≡ false → 12 ≡ answer_sound k (deposit a s q)
   unfolding first
-  deposit_over n m e z w h =
-      sym (deposit_goes n e z ∙ rw (lt-ltb most_held (total_held k.holdings s + q) (omega (arith, leb-false (total_held k.holdings s) m h))))
+  deposit_over m e w h =
+      sym (deposit_goes e ∙ rw (lt-ltb most_held (total_held k.holdings s + q) (omega (arith, leb-false (total_held k.holdings s) m h))))
 
-  pub deposit_fine : (n m : ℕ) → n ≡ common_refusal k a s q → n ≡ 0 → m + q ≡ most_held → leb (total_held k.holdings s) m ≡ true → 0 ≡ answer_sound k (deposit a s q)
+  pub deposit_fine : (m : ℕ) → 0 ≡ common_refusal k a s q → m + q ≡ most_held → leb (total_held k.holdings s) m ≡ true → 0 ≡ answer_sound k (deposit a s q)
   unfolding first
-  deposit_fine n m e z w h =
-      sym (deposit_goes n e z ∙ rw (le-ltb most_held (total_held k.holdings s + q) (omega (arith, leb-true (total_held k.holdings s) m h))))
+  deposit_fine m e w h =
+      sym (deposit_goes e ∙ rw (le-ltb most_held (total_held k.holdings s + q) (omega (arith, leb-true (total_held k.holdings s) m h))))
 
   -- ── withdrawal ──
 
@@ -85,25 +85,29 @@ module _ (k : Book) (a s q : ℕ) where
   unfolding answer_sound tests
   withdrawal_stops n e z = sym (common_then _ n e ∙ cond_no _ n (ne_eqb n 0 z))
 
-  withdrawal_goes : (n : ℕ) → n ≡ common_refusal k a s q → n ≡ 0 → answer_sound k (withdraw a s q) ≡ first ((above (held_by k a s) q, 11) ∷ [])
+  withdrawal_goes : 0 ≡ common_refusal k a s q → answer_sound k (withdraw a s q) ≡ first ((above (held_by k a s) q, 11) ∷ [])
   unfolding answer_sound tests
-  withdrawal_goes n e z = common_then _ n e ∙ cond_yes _ n (eq-eqb n 0 z)
+  withdrawal_goes e = common_then _ 0 e
 
-  pub withdrawal_over : (n : ℕ) → n ≡ common_refusal k a s q → n ≡ 0 → held_by k a s < q → 11 ≡ answer_sound k (withdraw a s q)
+  pub withdrawal_over : 0 ≡ common_refusal k a s q → held_by k a s < q → 11 ≡ answer_sound k (withdraw a s q)
   unfolding first
-  withdrawal_over n e z h = sym (withdrawal_goes n e z ∙ rw (lt-ltb (held_by k a s) q h))
+  withdrawal_over e h = sym (withdrawal_goes e ∙ rw (lt-ltb (held_by k a s) q h))
 
-  pub withdrawal_fine : (n : ℕ) → n ≡ common_refusal k a s q → n ≡ 0 → q ≤ held_by k a s → 0 ≡ answer_sound k (withdraw a s q)
+  pub withdrawal_fine : 0 ≡ common_refusal k a s q → q ≤ held_by k a s → 0 ≡ answer_sound k (withdraw a s q)
   unfolding first
-  withdrawal_fine n e z h = sym (withdrawal_goes n e z ∙ rw (le-ltb (held_by k a s) q h))
+  withdrawal_fine e h = sym (withdrawal_goes e ∙ rw (le-ltb (held_by k a s) q h))
 
   -- ── what an accepted call may count on ──
 
-  pub entry_small : sound k ≡ true → MayHold k a s q → length k.holdings ≡ accounts * securities → get_or k.holdings (a * 32 + s) 0 ≤ most_held
-  entry_small e p long =
+  pub place_below : MayHold k a s q → a * 32 + s < accounts * securities
+  place_below p =
       let x = p.account in
       let y = p.security in
-      leb-true _ most_held (all_at (λ h. leb h most_held) k.holdings (a * 32 + s) 0 (entries_small k e) (omega arith))
+      omega arith
+
+  pub entry_small : sound k ≡ true → MayHold k a s q → length k.holdings ≡ accounts * securities → get_or k.holdings (a * 32 + s) 0 ≤ most_held
+  entry_small e p long =
+      leb-true _ most_held (all_at (λ h. leb h most_held) k.holdings (a * 32 + s) 0 (entries_small k e) (omega (arith, place_below p)))
 
   -- the book after it, by the holding that the code wrote
   pub deposited : (n : ℕ) → n ≡ get_or k.holdings (a * 32 + s) 0 → with_holdings k (set k.holdings (a * 32 + s) (n + q)) ≡ after k (deposit a s q)

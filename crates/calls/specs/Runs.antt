@@ -1,5 +1,5 @@
 -- The settlement run on a sound book: its answer, refused, accepted, and accepted with nothing to give.
-use Rattle.std.specs.Prelude.{◌≡◌, true, false, List, ℕ, Result, Ok, Err}
+use Rattle.std.specs.Prelude.{◌≡◌, true, false, List, ℕ, Ok, Err}
 use Rattle.std.proofs.Math.Path.{sym, ap}
 use Rattle.std.proofs.Common.{◌∙◌, arith}
 use borrow.Author.Tests.{eq-eqb, ne_eqb}

@@ -1,8 +1,8 @@
 // Deposits and withdrawals (document 01, "Refusal numbers": 2, 3, 4, and 12 or 11). The one holding that changes is
 // read and written where it stands.
-ghost use Rattle.std.specs.Prelude.{◌≡◌, true, false, length};
+ghost use Rattle.std.specs.Prelude.{◌≡◌, ◌+◌, ◌*◌, true, false};
+ghost use Rattle.rules.specs.Layout.{book_of};
 ghost use Rattle.rules.specs.Refusals.{answered};
-ghost use Rattle.rules.specs.Layout.{book_length, book_of};
 ghost use Rattle.rules.specs.Sound.{sound, not_sound};
 ghost use Rattle.rules.specs.Calls.{deposit, withdraw, bad_deposit, answer_sound, answer_bytes, after_bytes};
 ghost use Rattle.calls.specs.Holdings.{common_refusal};
@@ -12,10 +12,18 @@ use rules::Refusal;
 use sound_tables::{bad_security, total_fits};
 
 // 4: deposit or withdrawal outside 1 to 10^12.
+#[tactic(auto, unfolding(rules::specs::Calls::bad_deposit))]
 fn bad_deposit(quantity: u64) -> bool
     ensures { result ≡ bad_deposit quantity }
 {
     quantity < 1 || quantity > 1_000_000_000_000
+}
+
+// Holdings are kept account by account, 32 entries each.
+fn place_of(account: u8, security: u8) -> usize
+    ensures { result ≡ account * 32 + security }
+{
+    account as usize * 32 + security as usize
 }
 
 // What deposit and withdrawal check alike of a sound book, before the one refusal that each has of its own.
@@ -60,7 +68,7 @@ pub fn deposit(
         × (book.new ≡ after_bytes book.old (deposit account security quantity)) }
 {
     may_deposit(book, account, security, quantity)?;
-    let at = (account as usize) * 32 + (security as usize);
+    let at = place_of(account, security);
     let held = holding_at(book, at);
     put_holding(book, at, held + quantity);
     Ok(())
@@ -71,8 +79,7 @@ fn may_withdraw(b: &BookBytes, account: u8, security: u8, quantity: u64) -> Resu
     ensures { answered result ≡ answer_sound (book_of b.now) (withdraw account security quantity) }
 {
     common_fits(b, account, security, quantity)?;
-    let at = (account as usize) * 32 + (security as usize);
-    let held = holding_at(b, at);
+    let held = holding_at(b, place_of(account, security));
     if quantity <= held {
         return Ok(());
     }
@@ -90,7 +97,7 @@ pub fn withdraw(
         × (book.new ≡ after_bytes book.old (withdraw account security quantity)) }
 {
     may_withdraw(book, account, security, quantity)?;
-    let at = (account as usize) * 32 + (security as usize);
+    let at = place_of(account, security);
     let held = holding_at(book, at);
     put_holding(book, at, held - quantity);
     Ok(())

@@ -1,9 +1,8 @@
 // Creation of a book (document 01, "What the book covers"; refusals 18 and 3).
-ghost use Rattle.std.specs.Prelude.{◌≡◌, length};
-ghost use Rattle.rules.specs.Refusals.{answered};
-ghost use Rattle.rules.specs.Bounds.{securities};
+ghost use Rattle.std.specs.Prelude.{◌≡◌};
 ghost use Rattle.rules.specs.Book.{empty_book};
 ghost use Rattle.rules.specs.Calls.{create_answer, create_bytes};
+ghost use Rattle.rules.specs.Refusals.{answered};
 
 use book_whole::store;
 use rules::{Book, Position, Refusal, Trade};
@@ -11,6 +10,7 @@ use sound_tables::codes_fit;
 use units::{Mils, Price, Shares, Whole};
 
 // Day 0 and nothing but the currency table.
+#[tactic(auto, unfolding(rules::specs::Book::empty_book))]
 fn empty_book(codes: [u8; 32]) -> Book
     ensures { result ≡ empty_book codes }
 {

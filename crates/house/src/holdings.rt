@@ -1,7 +1,7 @@
 // Deposits and withdrawals (document 01, "Refusal numbers": 1, 2, 3, 4, and 12 or 11).
 ghost use Rattle.std.specs.Prelude.{◌≡◌};
-ghost use Rattle.rules.specs.Refusals.{answered};
 ghost use Rattle.rules.specs.Calls.{deposit, withdraw, answer_bytes, after_bytes};
+ghost use Rattle.rules.specs.Refusals.{answered};
 
 use rules::Refusal;
 use soundness::sound_book_mut;

@@ -1,7 +1,7 @@
 // Marks of an account (document 01, "Marks"; refusals 1, 2, 18, 5, 15, 17, 16). The book is only read.
 ghost use Rattle.std.specs.Prelude.{◌≡◌};
-ghost use Rattle.rules.specs.Refusals.{numbered};
 ghost use Rattle.rules.specs.Marks.{terms, marks, marks_number, marks_figures, number_of_marks, figures_of_marks};
+ghost use Rattle.rules.specs.Refusals.{numbered};
 
 use marking::marks_of;
 use rules::{Marks, Refusal};

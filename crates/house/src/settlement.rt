@@ -1,8 +1,8 @@
 // The day roll and the settlement run (document 01, "From trades to positions", "Settlement run"; refusals 1, 10, 14 and
 // 1, 3, 13).
 ghost use Rattle.std.specs.Prelude.{◌≡◌, pos};
-ghost use Rattle.rules.specs.Refusals.{answered, numbered};
 ghost use Rattle.rules.specs.Calls.{roll, run, answer_bytes, after_bytes, figure_bytes, run_answer, number_of_run, figure_of_run};
+ghost use Rattle.rules.specs.Refusals.{answered, numbered};
 
 use rules::Refusal;
 use soundness::sound_book_mut;

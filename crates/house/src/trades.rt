@@ -1,7 +1,7 @@
 // Entry, amendment and exclusion of trades (document 01, "From trades to positions"; refusals 1 to 9).
 ghost use Rattle.std.specs.Prelude.{◌≡◌};
-ghost use Rattle.rules.specs.Refusals.{answered};
 ghost use Rattle.rules.specs.Calls.{enter, amend, exclude, answer_bytes, after_bytes};
+ghost use Rattle.rules.specs.Refusals.{answered};
 
 use rules::{Refusal, Trade};
 use soundness::sound_book_mut;

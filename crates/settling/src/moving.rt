@@ -1,9 +1,9 @@
 // A meeting where the bytes stand (document 01, "Settlement run"): the part is taken from both records, holdings move and
 // each part's money is charged.
-ghost use Rattle.std.specs.Prelude.{◌≡◌, ◌+◌, ◌<◌, ◌≤◌, ◌^◌, length, get_or, nat_abs};
+ghost use Rattle.std.specs.Prelude.{◌≡◌, ◌+◌, ◌<◌, ◌≤◌, ◌^◌, get_or, nat_abs};
 ghost use Rattle.units.specs.Units.{shares_of};
 ghost use Rattle.rules.specs.Book.{with_holdings, with_charges};
-ghost use Rattle.rules.specs.Layout.{book_length, book_of};
+ghost use Rattle.rules.specs.Layout.{book_of};
 ghost use Rattle.rules.specs.Run.{moved};
 ghost use Rattle.settling.specs.Charges.{ChargeAsks, charged_parts};
 ghost use Rattle.settling.specs.Meetings.{MeetAsks, met_in};

@@ -1,9 +1,9 @@
 // The settlement run of one security (document 01, "Settlement run" and "Refusal numbers": 13), on a sound book.
 ghost use Rattle.std.specs.Prelude.{◌≡◌, true, false, ◌*◌, ◌≤◌, pos, length};
 ghost use Rattle.units.specs.Units.{shares_of, most_shares};
-ghost use Rattle.rules.specs.Refusals.{answered};
 ghost use Rattle.rules.specs.Bounds.{most_records};
 ghost use Rattle.rules.specs.Layout.{book_length, book_of, bytes_of};
+ghost use Rattle.rules.specs.Refusals.{answered};
 ghost use Rattle.rules.specs.Sound.{sound};
 ghost use Rattle.rules.specs.Trades.{bad_security};
 ghost use Rattle.rules.specs.Run.{deliverable};

@@ -1,8 +1,10 @@
 -- A table: a loop over the entries in use, and one over the room behind them, and what a test of each says of `all`.
-use Rattle.std.specs.Prelude.{◌≡◌, refl, Bool, true, false, ◌&&◌, List, [], ◌∷◌, ℕ, zero, suc, ◌+◌, ◌<◌, ◌≤◌, length, get_or, take, drop, replicate}
-use Rattle.std.proofs.Common.{sym, ap, ◌∙◌, add-one, arith, get_or-take, length-take-le}
-use Rattle.std.proofs.Math.Seq.{drop-cons, drop-length}
-use Rattle.rules.specs.Words.{all}
+use Rattle.std.specs.Prelude.{◌≡◌, refl, Bool, true, false, ◌&&◌, List, [], ◌∷◌, ℕ, zero, suc, ◌+◌, ◌-◌, ◌<◌, ◌≤◌, length, get_or, take, drop}
+use Rattle.std.specs.List.{list_all, range_with_len}
+use Rattle.std.proofs.Common.{sym, ap, ◌∙◌, add-one, arith, get_or-take, length-take-le, drop-cons, take_all, length-drop}
+use Rattle.std.proofs.lemmas.List.FromFn.{fill_by_all}
+use Rattle.std.proofs.lemmas.List.Folds.{list_all-map}
+use Rattle.rules.specs.Words.{all, from}
 use Rattle.laws.specs.Cases.{and_mix}
 use Rattle.laws.specs.Walks.{all_fails}
 
@@ -16,33 +18,41 @@ module _ {A : Type 0} (t : A → Bool) (l : List A) where
   pub take_done : (n i : ℕ) → i ≡ n → all t (take i l) ≡ true → true ≡ all t (take n l)
   take_done n i e a = sym a ∙ ap (λ (j : ℕ). all t (take j l)) e
 
-  -- ── from n on: what is still to be tested ──
+  -- ── a walk by places ──
 
-  pub drop_more : (i : ℕ) (d : A) → i < length l → t (get_or l i d) ≡ true → all t (drop (i + 1) l) ≡ all t (drop i l)
+  all_places : (d : A) (n a : ℕ) → a + n ≤ length l → list_all (λ i. t (get_or l i d)) (range_with_len a n) ≡ all t (take n (drop a l))
   unfolding all
-  drop_more i d h e = rw (add-one i, drop-cons l i d h, e)
+  all_places d zero a h = refl
+  all_places d (suc n) a h =
+      rw (drop-cons l a d (omega arith), all_places d n (a + 1) (omega arith), add-one a)
 
-  pub drop_fails : (i : ℕ) (d : A) → i < length l → t (get_or l i d) ≡ false → false ≡ all t (drop i l)
-  unfolding all
-  drop_fails i d h e = rw (drop-cons l i d h, e)
+  -- over the first n entries, and over those from n on
+  pub all_first : (d : A) (n : ℕ) → n ≤ length l → list_all (λ i. t (get_or l i d)) (range_with_len 0 n) ≡ all t (take n l)
+  all_first d n h = all_places d n 0 (omega arith)
 
-  pub drop_done : (i : ℕ) → i ≡ length l → true ≡ all t (drop i l)
-  unfolding all
-  drop_done i e = rw (e, drop-length l)
+  pub all_rest : (d : A) (n m : ℕ) → length l ≡ m → n ≤ m → list_all (λ i. t (get_or l i d)) (range_with_len n (m - n)) ≡ all t (drop n l)
+  all_rest d n m e h =
+      all_places d (m - n) n (omega arith) ∙ ap (all t) (take_all (m - n) (drop n l) (omega (arith, length-drop n l)))
 
--- ── an array that is filled with 0 ──
+-- ── a walk over a list itself, and over all places of a list ──
 
-abbrev pub nothing : ℕ → List ℕ
-nothing n = replicate n 0
+pub all_is : {A : Type 0} (t : A → Bool) (l : List A) → list_all t l ≡ all t l
+unfolding all
+all_is t [] = refl
+all_is t (x ∷ l) = ap (λ (b : Bool). t x && b) (all_is t l)
 
-pub nothing_at : (n s : ℕ) → get_or (nothing n) s 0 ≡ 0
-nothing_at zero s = refl
-nothing_at (suc n) zero = refl
-nothing_at (suc n) (suc s) = nothing_at n s
+numbers_are : (n a : ℕ) → range_with_len a n ≡ from a n
+unfolding from
+numbers_are zero a = refl
+numbers_are (suc n) a = rw (numbers_are n (a + 1), add-one a)
 
-pub nothing_length : (n : ℕ) → length (nothing n) ≡ n
-nothing_length zero = refl
-nothing_length (suc n) = ap suc (nothing_length n)
+pub all_numbers : (t : ℕ → Bool) (n : ℕ) → list_all t (range_with_len 0 n) ≡ all t (from 0 n)
+all_numbers t n = rw (numbers_are n 0) (all_is t (from 0 n))
+
+pub all_by_place : {A : Type 0} (t : A → Bool) (l : List A) (d : A) (n : ℕ) → length l ≡ n → list_all t l ≡ all (λ i. t (get_or l i d)) (from 0 n)
+all_by_place t l d n e =
+    ap (list_all t) (fill_by_all (λ i. get_or l i d) l n d e (λ k h. refl)) ∙ list_all-map t (λ i. get_or l i d) (range_with_len 0 n)
+    ∙ all_numbers (λ i. t (get_or l i d)) n
 
 -- ── tests that agree ──
 

@@ -16,20 +16,11 @@ pub(crate) fn with_quantity(sum: Shares, p: Position) -> Shares
     requires { Room sum p }
     ensures { shares_of result ≡ shares_of sum +ℤ quantity_of p }
 {
-    let q = p.quantity;
-    sum.plus(q)
+    sum.plus(p.quantity)
 }
 
 pub(crate) fn sums_zero(sums: [Shares; 32]) -> bool
     ensures { result ≡ all (zero_at sums) every_security }
 {
-    let mut s: usize = 0;
-    while s < 32 {
-        let sum = sums[s];
-        if !sum.is_zero() {
-            return false;
-        }
-        s += 1;
-    }
-    true
+    sums.iter().all(|sum| sum.is_zero())
 }

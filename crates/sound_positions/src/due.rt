@@ -1,5 +1,5 @@
 // "No due day beyond day + 1. A record due by the book's day has nonzero quantity."
-ghost use Rattle.std.specs.Prelude.{◌≡◌, ◌+◌, ◌<◌, ◌^◌, leb};
+ghost use Rattle.std.specs.Prelude.{◌≡◌, ◌<◌, ◌^◌, leb};
 ghost use Rattle.rules.specs.Book.{due_of};
 ghost use Rattle.rules.specs.Sound.{due_fits, due_nonzero, is_due};
 
@@ -7,6 +7,7 @@ use rules::Position;
 
 // Due on this day or before: the number is below the numbers of the next day. The number is compared and not divided, so
 // that it is read in one load.
+#[tactic(auto, using(crate::specs::DueBy::below_next), unfolding(rules::specs::Book::due_of))]
 fn due_by(day: u32, p: Position) -> bool
     requires { day < 2 ^ 17 }
     ensures { result ≡ leb (due_of p) day }
@@ -15,26 +16,23 @@ fn due_by(day: u32, p: Position) -> bool
     p.number < next
 }
 
+#[tactic(auto, unfolding(rules::specs::Sound::is_due))]
 pub fn is_due(day: u16, p: Position) -> bool
     ensures { result ≡ is_due day p }
 {
-    let today = day as u32;
-    due_by(today, p)
+    due_by(day as u32, p)
 }
 
+#[tactic(auto, unfolding(rules::specs::Sound::due_fits))]
 pub(crate) fn day_fits(day: u16, p: Position) -> bool
     ensures { result ≡ due_fits day p }
 {
-    let today = day as u32;
-    due_by(today + 1, p)
+    due_by(day as u32 + 1, p)
 }
 
+#[tactic(auto, unfolding(rules::specs::Sound::due_nonzero, rules::specs::Book::is_zero))]
 pub fn nonzero_if_due(day: u16, p: Position) -> bool
     ensures { result ≡ due_nonzero day p }
 {
-    if !is_due(day, p) {
-        return true;
-    }
-    let q = p.quantity;
-    !q.is_zero()
+    !(is_due(day, p) && p.quantity.is_zero())
 }

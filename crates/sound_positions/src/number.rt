@@ -5,6 +5,7 @@ ghost use Rattle.rules.specs.Book.{due_of, account_of, security_of};
 
 use rules::Position;
 
+#[tactic(auto, unfolding(rules::specs::Book::due_of))]
 pub fn due_of(p: Position) -> u32
     ensures { result ≡ due_of p }
 {
@@ -12,12 +13,14 @@ pub fn due_of(p: Position) -> u32
 }
 
 // Accounts and securities are read as places: totals and signs are looked up with them.
+#[tactic(auto, unfolding(rules::specs::Book::account_of))]
 pub fn account_of(p: Position) -> usize
     ensures { (result ≡ account_of p) × (result < accounts) }
 {
     (p.number / 32 % 64) as usize
 }
 
+#[tactic(auto, unfolding(rules::specs::Book::security_of))]
 pub fn security_of(p: Position) -> usize
     ensures { (result ≡ security_of p) × (result < securities) }
 {

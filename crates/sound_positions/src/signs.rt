@@ -17,44 +17,48 @@ fn place_of(p: Position) -> usize
     a * 32 + s
 }
 
-// 1 for shares to receive, 2 for shares to deliver; 0 is left for a pair that no due record was seen of. No due record has
-// zero shares: the test for it has the whole quantity read in one load, where the sign alone would be read as a byte.
-fn sign_of(p: Position) -> u8
+// The sign of a record's shares, to receive or to deliver. The table of all pairs has none where no due record was seen.
+#[derive(Clone, Copy, PartialEq)]
+pub(crate) enum Sign {
+    Receives,
+    Delivers,
+}
+
+// No due record has zero shares: the test for it has the whole quantity read in one load, where the sign alone would be
+// read as a byte.
+#[tactic(auto, unfolding(crate::specs::OneSign::sign, rules::specs::Book::is_zero))]
+fn sign_of(p: Position) -> Sign
     requires { is_zero (quantity_of p) ≡ false }
     ensures { result ≡ sign_of p }
 {
-    let q = p.quantity;
-    if q.is_zero() {
-        return 2;
+    if p.quantity.is_zero() || p.quantity.is_negative() {
+        Sign::Delivers
+    } else {
+        Sign::Receives
     }
-    if q.is_negative() {
-        return 2;
-    }
-    1
 }
 
 // A due record has the sign that was seen of its pair, if one was.
-pub(crate) fn sign_fits(seen: &[u8; 2048], day: u16, p: Position) -> bool
+#[tactic(auto, using(crate::specs::Each::due_nonzero_lem), unfolding(crate::specs::OneSign::fits))]
+pub(crate) fn sign_fits(seen: &[Option<Sign>; 2048], day: u16, p: Position) -> bool
     requires { due_nonzero day p ≡ true }
     ensures { result ≡ not (is_due day p) || fits_seen seen.now p }
 {
     if !is_due(day, p) {
         return true;
     }
-    let at = place_of(p);
-    let sign = sign_of(p);
-    let old = seen[at];
-    old == 0 || old == sign
+    match seen[place_of(p)] {
+        None => true,
+        Some(sign) => sign == sign_of(p),
+    }
 }
 
-pub(crate) fn note_sign(seen: &mut [u8; 2048], day: u16, p: Position)
+#[tactic(auto, using(crate::specs::Each::due_nonzero_lem))]
+pub(crate) fn note_sign(seen: &mut [Option<Sign>; 2048], day: u16, p: Position)
     requires { due_nonzero day p ≡ true }
     ensures { seen.new ≡ cond (is_due day p) (with_sign seen.old p) seen.old }
 {
-    if !is_due(day, p) {
-        return;
+    if is_due(day, p) {
+        seen[place_of(p)] = Some(sign_of(p));
     }
-    let at = place_of(p);
-    let sign = sign_of(p);
-    seen[at] = sign;
 }

@@ -4,18 +4,11 @@ ghost use Rattle.rules.specs.Sound.{sizes_fit};
 
 use rules::Position;
 
+#[tactic(auto, unfolding(rules::specs::Sound::sizes_fit, rules::specs::Sound::is_position, rules::specs::Book::is_zero))]
 pub(crate) fn size_fits(p: Position) -> bool
     ensures { result ≡ sizes_fit p }
 {
-    let quantity = p.quantity;
-    let q = quantity.size();
-    if q.0 > 256_000_000 {
-        return false;
-    }
-    let money = p.money;
-    let m = money.size();
-    if m.0 > 2_560_000_000_000_000 {
-        return false;
-    }
-    q.0 != 0 || m.0 != 0
+    let q = p.quantity.size();
+    let m = p.money.size();
+    q.0 <= 256_000_000 && m.0 <= 2_560_000_000_000_000 && (q.0 != 0 || m.0 != 0)
 }

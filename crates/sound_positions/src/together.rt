@@ -1,10 +1,10 @@
 // What is asked of records together: "an account's due records in one security have one sign", and "per security,
 // quantities due by the day total zero, as do those due on day + 1". One walk over the records finds out both.
-ghost use Rattle.std.specs.Prelude.{◌≡◌, true, ◌&&◌, ◌≤◌, length};
+ghost use Rattle.std.specs.Prelude.{◌≡◌, true, ◌&&◌, ◌≤◌};
 ghost use Rattle.rules.specs.Words.{keep};
 ghost use Rattle.rules.specs.Bounds.{most_records};
 ghost use Rattle.rules.specs.Book.{open_of};
-ghost use Rattle.rules.specs.Layout.{book_length, book_of};
+ghost use Rattle.rules.specs.Layout.{book_of};
 ghost use Rattle.rules.specs.Sound.{is_due, one_sign, due_balanced};
 ghost use Rattle.sound_positions.specs.Each.{each_fits};
 
@@ -22,12 +22,11 @@ pub fn together_fit(b: &BookBytes) -> bool
 {
     let day = day_at(b);
     let n = records_at(b) as usize;
-    let mut seen: [u8; 2048] = [0; 2048];
+    let mut seen = [None; 2048];
     let none = Shares(Whole(0));
-    let mut today: [Shares; 32] = [none; 32];
-    let mut later: [Shares; 32] = [none; 32];
-    let mut i: usize = 0;
-    while i < n {
+    let mut today = [none; 32];
+    let mut later = [none; 32];
+    for i in 0..n {
         let p = position_at(b, i);
         if !sign_fits(&seen, day, p) {
             return false;
@@ -36,16 +35,10 @@ pub fn together_fit(b: &BookBytes) -> bool
         // Its quantity counts among those due by the day, or among those due later.
         let s = security_of(p);
         if is_due(day, p) {
-            let sum = today[s];
-            today[s] = with_quantity(sum, p);
+            today[s] = with_quantity(today[s], p);
         } else {
-            let sum = later[s];
-            later[s] = with_quantity(sum, p);
+            later[s] = with_quantity(later[s], p);
         }
-        i += 1;
     }
-    if !sums_zero(today) {
-        return false;
-    }
-    sums_zero(later)
+    sums_zero(today) && sums_zero(later)
 }

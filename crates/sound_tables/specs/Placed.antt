@@ -1,5 +1,6 @@
 -- One pass over a table whose entries count by their place: a test of each entry, and amounts that are added up at one of n places.
-use Rattle.std.specs.Prelude.{◌≡◌, Bool, true, false, cond, ◌&&◌, eqb, length, get_or, take, drop, set, replicate}
+use Rattle.std.specs.List.{list_all, range_with_len}
+use Rattle.std.specs.Prelude.{◌≡◌, Bool, true, cond, ◌&&◌, eqb, length, get_or, take, drop, set, replicate}
 use Rattle.std.proofs.Math.Path.{refl, sym, ap}
 use Rattle.std.proofs.Common.{◌∙◌, add-one, length-set, drop_of_length-le, get_or-set_same, get_or-set_other, eq-eqb, ne_eqb}
 use mathlib.Core.List.{List, [], ◌∷◌}
@@ -26,22 +27,11 @@ module _ {A : Type 0} (t : ℕ → A → Bool) where
   from_split j (suc m) [] = refl
   from_split j (suc m) (x ∷ l) = let z : j + suc m ≡ suc j + m = omega arith in rw z (and_step (t j x) _ _ _ (from_split (suc j) m l))
 
-  from_step : (l : List A) (i : ℕ) (d : A) → i < length l → all_from t i (drop i l) ≡ t i (get_or l i d) && all_from t (i + 1) (drop (i + 1) l)
+  -- a walk by places
+  pub all_places : (l : List A) (d : A) (n a : ℕ) → length l ≡ a + n → list_all (λ i. t i (get_or l i d)) (range_with_len a n) ≡ all_from t a (drop a l)
   unfolding all_from
-  from_step l i d h = rw (add-one i, drop-cons l i d h)
-
-  -- the loop: what is left to test decides
-  pub from_more : (l : List A) (i : ℕ) (d : A) → i < length l → all_from t i (drop i l) ≡ all_from t 0 l → t i (get_or l i d) ≡ true
-      → all_from t (i + 1) (drop (i + 1) l) ≡ all_from t 0 l
-  from_more l i d h e f = sym (from_step l i d h ∙ ap (λ (b : Bool). b && all_from t (i + 1) (drop (i + 1) l)) f) ∙ e
-
-  pub from_fails : (l : List A) (i : ℕ) (d : A) → i < length l → all_from t i (drop i l) ≡ all_from t 0 l → t i (get_or l i d) ≡ false
-      → false ≡ all_from t 0 l
-  from_fails l i d h e f = sym (from_step l i d h ∙ ap (λ (b : Bool). b && all_from t (i + 1) (drop (i + 1) l)) f) ∙ e
-
-  pub from_done : (l : List A) (i : ℕ) → length l ≤ i → all_from t i (drop i l) ≡ all_from t 0 l → true ≡ all_from t 0 l
-  unfolding all_from
-  from_done l i h e = sym (ap (all_from t i) (drop_of_length-le l {i = i} h)) ∙ e
+  all_places l d zero a h = let e : drop a l ≡ [] = drop_of_length-le l {i = a} (omega arith) in rw e
+  all_places l d (suc n) a h = rw (drop-cons l a d (omega arith), all_places l d n (a + 1) (omega arith), add-one a)
 
 -- ── amounts ──
 

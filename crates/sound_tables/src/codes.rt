@@ -3,6 +3,7 @@ ghost use Rattle.std.specs.Prelude.{◌≡◌};
 ghost use Rattle.rules.specs.Words.{all};
 ghost use Rattle.rules.specs.Sound.{is_code};
 
+#[tactic(auto, unfolding(rules::specs::Sound::is_code))]
 pub fn is_code(code: u8) -> bool
     ensures { result ≡ is_code code }
 {
@@ -12,12 +13,5 @@ pub fn is_code(code: u8) -> bool
 pub fn codes_fit(codes: [u8; 32]) -> bool
     ensures { result ≡ all is_code codes }
 {
-    let mut i: usize = 0;
-    while i < 32 {
-        if !is_code(codes[i]) {
-            return false;
-        }
-        i += 1;
-    }
-    true
+    codes.iter().all(|code| is_code(*code))
 }

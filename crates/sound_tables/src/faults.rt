@@ -6,6 +6,7 @@ ghost use Rattle.rules.specs.declared.Book.{Book};
 use rules::Trade;
 
 // 2: account above 63.
+#[tactic(auto, unfolding(rules::specs::Trades::bad_accounts, rules::specs::Trades::no_account))]
 pub fn bad_accounts(t: Trade) -> bool
     ensures { result ≡ bad_accounts t }
 {
@@ -13,17 +14,15 @@ pub fn bad_accounts(t: Trade) -> bool
 }
 
 // 3: security above 31 or unlisted, in any book with these codes.
+#[tactic(auto, unfolding(rules::specs::Trades::bad_security, rules::specs::Trades::no_security, rules::specs::Book::unlisted, rules::specs::Book::currency_of))]
 pub fn bad_security(codes: [u8; 32], s: u8) -> bool
     ensures { (k : Book) → k.currency ≡ codes → result ≡ bad_security k s }
 {
-    if s > 31 {
-        return true;
-    }
-    let i = s as usize;
-    codes[i] == 255
+    s > 31 || codes[s as usize] == 255
 }
 
 // 4: trade quantity outside 1 to 1,000,000.
+#[tactic(auto, unfolding(rules::specs::Trades::bad_quantity))]
 pub fn bad_quantity(t: Trade) -> bool
     ensures { result ≡ bad_quantity t }
 {
@@ -31,14 +30,15 @@ pub fn bad_quantity(t: Trade) -> bool
 }
 
 // 5: price outside 1 to 9,999,999.
+#[tactic(auto, unfolding(rules::specs::Trades::bad_price))]
 pub fn bad_price(t: Trade) -> bool
     ensures { result ≡ bad_price t }
 {
-    let p = t.price;
-    p.0 < 1 || p.0 > 9_999_999
+    t.price.0 < 1 || t.price.0 > 9_999_999
 }
 
 // 6: buyer and seller the same account.
+#[tactic(auto, unfolding(rules::specs::Trades::same_account))]
 pub fn same_account(t: Trade) -> bool
     ensures { result ≡ same_account t }
 {

@@ -1,9 +1,9 @@
 // "For each account and currency, the size of the day's charge plus the sizes of open money is at most 2,621,440,000,000,000,000."
-ghost use Rattle.std.specs.Prelude.{◌≡◌, ℕ, ◌+◌, ◌<◌, ◌≤◌, ◌^◌, leb, length, nat_abs};
+ghost use Rattle.std.specs.Prelude.{◌≡◌, ℕ, ◌+◌, ◌<◌, ◌≤◌, ◌^◌, leb, nat_abs};
 ghost use Rattle.units.specs.Units.{mils_of};
 ghost use Rattle.rules.specs.Bounds.{currencies, most_at_stake};
 ghost use Rattle.rules.specs.Book.{security_of, currency_of};
-ghost use Rattle.rules.specs.Layout.{book_length, book_of};
+ghost use Rattle.rules.specs.Layout.{book_of};
 ghost use Rattle.rules.specs.Sound.{money_fits};
 ghost use Rattle.sound_tables.specs.Placed.{all_from, sum_at};
 ghost use Rattle.sound_tables.specs.Stakes.{MoneyAsks, place_of, size_of, Sums, stake_fits};
@@ -14,6 +14,7 @@ use sound_positions::{account_of, security_of};
 use units::{Amount, Mils};
 
 // Where the money of a position counts: account * 4 + currency.
+#[tactic(auto, unfolding(rules::specs::Book::currency_of))]
 fn place_of(b: &BookBytes, p: Position) -> usize
     requires { currency_of (book_of b.now) (security_of p) < currencies }
     ensures { (result ≡ place_of (book_of b.now) p) × (result < 256) }
@@ -29,9 +30,7 @@ fn with_money(sum: Amount, p: Position) -> Amount
     requires { sum.0 + size_of p < 2 ^ 64 }
     ensures { result.0 ≡ sum.0 + size_of p }
 {
-    let m = p.money;
-    let size = m.size();
-    Amount(sum.0 + size.0)
+    Amount(sum.0 + p.money.size().0)
 }
 
 // The sizes of open money of each account and currency, in one pass over the records.
@@ -41,14 +40,11 @@ fn open_money(b: &BookBytes) -> [Amount; 256]
 {
     let n = records_at(b) as usize;
     let none = Amount(0);
-    let mut sums: [Amount; 256] = [none; 256];
-    let mut i: usize = 0;
-    while i < n {
+    let mut sums = [none; 256];
+    for i in 0..n {
         let p = position_at(b, i);
         let at = place_of(b, p);
-        let sum = sums[at];
-        sums[at] = with_money(sum, p);
-        i += 1;
+        sums[at] = with_money(sums[at], p);
     }
     sums
 }
@@ -57,27 +53,17 @@ fn stake_fits(charge: Mils, money: Amount) -> bool
     requires { money.0 ≤ most_at_stake }
     ensures { result ≡ leb (nat_abs (mils_of charge) + money.0) most_at_stake }
 {
-    let room = 2_621_440_000_000_000_000 - money.0;
-    let size = charge.size();
-    size.0 <= room
+    charge.size().0 <= 2_621_440_000_000_000_000 - money.0
 }
 
 fn charges_fit(b: &BookBytes, sums: [Amount; 256]) -> bool
     requires { (x : ℕ) → x < 256 → sum_at sums x ≤ most_at_stake }
     ensures { result ≡ all_from (stake_fits sums) 0 (book_of b.now).charges }
 {
-    let mut i: usize = 0;
-    while i < 256 {
-        let charge = charge_at(b, i);
-        let sum = sums[i];
-        if !stake_fits(charge, sum) {
-            return false;
-        }
-        i += 1;
-    }
-    true
+    (0..256).all(|i| stake_fits(charge_at(b, i), sums[i]))
 }
 
+#[tactic(auto, using(crate::specs::Stakes::stakes_fit, book::specs::Views::charges_long))]
 pub fn money_fits(b: &BookBytes) -> bool
     requires { MoneyAsks (book_of b.now) }
     ensures { result ≡ money_fits (book_of b.now) }

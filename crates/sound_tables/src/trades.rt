@@ -1,9 +1,9 @@
 // "Trades: at most 256, numbers distinct and nonzero, fields valid; an excluded one keeps its number and order, other fields zero."
-ghost use Rattle.std.specs.Prelude.{◌≡◌, ◌&&◌, ◌≤◌, eqb, length, drop};
+ghost use Rattle.std.specs.Prelude.{◌≡◌, ◌&&◌, ◌≤◌, eqb, drop};
 ghost use Rattle.rules.specs.Words.{all};
 ghost use Rattle.rules.specs.Bounds.{most_trades};
 ghost use Rattle.rules.specs.Book.{list_of};
-ghost use Rattle.rules.specs.Layout.{book_length, book_of};
+ghost use Rattle.rules.specs.Layout.{book_of};
 ghost use Rattle.rules.specs.Sound.{valid_trade, zero_fields, trades_fit};
 ghost use Rattle.rules.specs.declared.Book.{Book};
 ghost use Rattle.laws.specs.Listed.{listable};
@@ -14,63 +14,35 @@ use book::{BookBytes, codes_of, entries_at, trade_at};
 use rules::Trade;
 
 // None of the faults, in any book with these codes.
+#[tactic(auto, unfolding(rules::specs::Sound::valid_trade))]
 fn valid_trade(codes: [u8; 32], t: Trade) -> bool
     ensures { (k : Book) → k.currency ≡ codes → result ≡ valid_trade k t }
 {
-    if bad_accounts(t) {
-        return false;
-    }
-    if bad_security(codes, t.security) {
-        return false;
-    }
-    if bad_quantity(t) {
-        return false;
-    }
-    if bad_price(t) {
-        return false;
-    }
-    !same_account(t)
+    !(bad_accounts(t)
+        || bad_security(codes, t.security)
+        || bad_quantity(t)
+        || bad_price(t)
+        || same_account(t))
 }
 
+#[tactic(auto, unfolding(rules::specs::Sound::zero_fields))]
 fn zero_fields(t: Trade) -> bool
     ensures { result ≡ zero_fields t }
 {
-    if t.buyer != 0 {
-        return false;
-    }
-    if t.seller != 0 {
-        return false;
-    }
-    if t.security != 0 {
-        return false;
-    }
-    if t.quantity != 0 {
-        return false;
-    }
-    let p = t.price;
-    p.0 == 0
+    t.buyer == 0 && t.seller == 0 && t.security == 0 && t.quantity == 0 && t.price.0 == 0
 }
 
 // A trade that may stand in the list: valid, or excluded.
 fn is_listable(codes: [u8; 32], t: Trade) -> bool
     ensures { (k : Book) → k.currency ≡ codes → result ≡ listable k t }
 {
-    if t.number == 0 {
-        return false;
-    }
-    if valid_trade(codes, t) {
-        return true;
-    }
-    zero_fields(t)
+    t.number != 0 && (valid_trade(codes, t) || zero_fields(t))
 }
 
 fn blank_trade(t: Trade) -> bool
     ensures { result ≡ (eqb t.number 0 && zero_fields t) }
 {
-    if t.number != 0 {
-        return false;
-    }
-    zero_fields(t)
+    t.number == 0 && zero_fields(t)
 }
 
 fn all_listable(b: &BookBytes) -> bool
@@ -79,15 +51,7 @@ fn all_listable(b: &BookBytes) -> bool
 {
     let codes = codes_of(b);
     let n = entries_at(b) as usize;
-    let mut i: usize = 0;
-    while i < n {
-        let t = trade_at(b, i);
-        if !is_listable(codes, t) {
-            return false;
-        }
-        i += 1;
-    }
-    true
+    (0..n).all(|i| is_listable(codes, trade_at(b, i)))
 }
 
 // "Unused room is zero."
@@ -95,28 +59,13 @@ fn rest_blank(b: &BookBytes) -> bool
     requires { (book_of b.now).entries ≤ most_trades }
     ensures { result ≡ all (λ t. eqb t.number 0 && zero_fields t) (drop (book_of b.now).entries (book_of b.now).trades) }
 {
-    let mut row = entries_at(b) as usize;
-    while row < 256 {
-        let t = trade_at(b, row);
-        if !blank_trade(t) {
-            return false;
-        }
-        row += 1;
-    }
-    true
+    let n = entries_at(b) as usize;
+    (n..256).all(|row| blank_trade(trade_at(b, row)))
 }
 
+#[tactic(auto, unfolding(rules::specs::Sound::trades_fit))]
 pub fn trades_fit(b: &BookBytes) -> bool
     ensures { result ≡ trades_fit (book_of b.now) }
 {
-    if entries_at(b) > 256 {
-        return false;
-    }
-    if !numbers_distinct(b) {
-        return false;
-    }
-    if !all_listable(b) {
-        return false;
-    }
-    rest_blank(b)
+    entries_at(b) <= 256 && numbers_distinct(b) && all_listable(b) && rest_blank(b)
 }

@@ -1,22 +1,17 @@
--- The groups of sentences of "A sound book" that the code tests make the whole; and the length of the book.
-use Rattle.std.specs.Prelude.{◌≡◌, refl, Bool, true, false, not, ◌&&◌, List, ℕ, ◌≤◌, leb, length, drop}
-use Rattle.std.proofs.Common.{sym, ap, ◌∙◌, eq-eqb, ne_eqb}
+-- The groups of sentences of "A sound book" that the code tests make the whole.
+use Rattle.std.specs.Prelude.{◌≡◌, refl, Bool, true, false, ◌&&◌, ◌≤◌, leb, drop}
+use Rattle.std.proofs.Common.{sym}
 use Rattle.std.proofs.Math.Bool.{and_assoc}
 use Rattle.rules.specs.Words.{all, keep}
 use Rattle.rules.specs.Bounds.{accounts, securities, most_records}
 use Rattle.rules.specs.Book.{open_of}
-use Rattle.rules.specs.Layout.{book_length, book_of}
-use Rattle.rules.specs.Sound.{day_fits, codes_fit, ascends, is_blank, records_fit, sizes_fit, is_due, one_sign, due_balanced, by_account, holdings_fit, holds_listed, unlisted_empty, money_fits, trades_fit, sound, not_sound}
+use Rattle.rules.specs.Sound.{day_fits, codes_fit, ascends, is_blank, records_fit, sizes_fit, is_due, one_sign, due_balanced, by_account, holdings_fit, holds_listed, unlisted_empty, money_fits, trades_fit, sound}
 use Rattle.rules.specs.declared.Book.{Book}
 use Rattle.laws.specs.Cases.{both_hold, and_hold}
 use Rattle.sound_positions.specs.Each.{each_fits, room_fits, room_within}
 use Rattle.sound_tables.specs.Held.{held_fits}
 use Rattle.sound_tables.specs.Stakes.{MoneyAsks}
 use Rattle.soundness.specs.Clauses.{positions_fit, records_listed}
-
-pub positions_by : (k : Book) {r e t : Bool} → room_fits k ≡ r → ascends (open_of k) && each_fits k ≡ e
-    → one_sign (keep (is_due k.day) (open_of k)) && due_balanced k ≡ t → r && (e && t) ≡ positions_fit k
-positions_by k er ee et = rw (← er, ← ee, ← et)
 
 -- ── the groups make the whole ──
 
@@ -38,21 +33,16 @@ regroup_holdings true false true rest = refl
 regroup_holdings true true false rest = refl
 regroup_holdings true true true rest = refl
 
-pub sound_is : (k : Book)
-    → day_fits k && (codes_fit k && (positions_fit k && (held_fits k && (records_listed k && (money_fits k && trades_fit k))))) ≡ sound k
+pub sound_parts : (k : Book)
+    → sound k ≡ day_fits k && (codes_fit k && (positions_fit k && (held_fits k && (records_listed k && (money_fits k && trades_fit k)))))
 unfolding sound records_fit unlisted_empty
-sound_is k =
-    rw (
+sound_parts k =
+    sym (rw (
       regroup_holdings (holdings_fit k) (all (holds_listed k.currency) (by_account securities accounts k.holdings)) (records_listed k) (money_fits k && trades_fit k),
       regroup_positions (leb k.records most_records) (ascends (open_of k)) (all is_blank (drop k.records k.positions)) (each_fits k)
           (one_sign (keep (is_due k.day) (open_of k)) && due_balanced k) _,
     )
-    (simp and_assoc)
-
--- so the tests that were made say what `sound` is; those that were not stand as they are
-pub sound_by : (k : Book) {a b p h u m t : Bool} → day_fits k ≡ a → codes_fit k ≡ b → positions_fit k ≡ p → held_fits k ≡ h → records_listed k ≡ u
-    → money_fits k ≡ m → trades_fit k ≡ t → a && (b && (p && (h && (u && (m && t))))) ≡ sound k
-sound_by k ea eb ep eh eu em et = rw (← ea, ← eb, ← ep, ← eh, ← eu, ← em, ← et) (sound_is k)
+    (simp and_assoc))
 
 -- ── what the tests after the first ones count on ──
 
@@ -73,13 +63,3 @@ money_asks k c p h u =
       codes = c;
       listed = and_hold u (both_hold (holdings_fit k) _ h).1;
     }
-
--- ── a book of wrong length is none ──
-
-pub wrong_length : (bs : List ℕ) → (length bs ≡ book_length → ⊥) → true ≡ not_sound bs
-unfolding not_sound
-wrong_length bs h = sym (ap (λ (t : Bool). not (t && sound (book_of bs))) (ne_eqb (length bs) book_length h))
-
-pub by_soundness : (bs : List ℕ) (r : Bool) → length bs ≡ book_length → r ≡ sound (book_of bs) → not r ≡ not_sound bs
-unfolding not_sound
-by_soundness bs r h e = ap not e ∙ sym (ap (λ (t : Bool). not (t && sound (book_of bs))) (eq-eqb (length bs) book_length h))

@@ -1,25 +1,37 @@
 -- `house::creation::create` meets its contract: each return by the tests that were made so far. Assumes nothing.
-use mathlib.Core.Path.{sym, ap, ◌∙◌}
+use Rattle.std.proofs.Common.{sym, ap, ◌∙◌}
 use Rattle.rules.specs.Words.{all}
 use Rattle.rules.specs.Book.{empty_book}
 use Rattle.rules.specs.Layout.{bytes_of}
+use Rattle.rules.specs.Refusals.{answered}
 use Rattle.rules.specs.Sound.{is_code}
 use Rattle.house.specs.Lent.{no_room, no_codes, bad_codes, created}
+use Rattle.house.proofs.Unsound.{handed_on}
 use Rattle.house.proofs.creation.create.Goals as goal
 
-pub returns-then-book-ne-BOOK_BYTES : goal.returns-then-book-ne-BOOK_BYTES
-returns-then-book-ne-BOOK_BYTES c = no_room _ _ c.if-book-ne-BOOK_BYTES.true
+pub returns-in_err-room : goal.returns-in_err-room
+returns-in_err-room c =
+    let none = c.in_err-room.ensures in
+    let e = no_room _ _ (rw none.ok_part at c.as_mut_array.ensures.cases) in
+    (ap answered (handed_on _ _ _ _ none.ok_part none.value c.from_residual.ensures.1) ∙ e.0, e.1)
 
-pub returns-then-codes-ne32 : goal.returns-then-codes-ne32
-returns-then-codes-ne32 c = no_codes _ _ c.if-book-ne-BOOK_BYTES.false c.if-codes-ne32.true
+pub returns-in_err-table : goal.returns-in_err-table
+returns-in_err-table c =
+    let room = rw c.in_ok-room.ensures.ok_part at c.as_mut_array.ensures.cases in
+    let none = c.in_err-table.ensures in
+    let e = no_codes _ _ room.long (rw none.ok_part at c.as_array.ensures.cases) in
+    (ap answered (handed_on _ _ _ _ none.ok_part none.value c.from_residual-in_err-table.ensures.1) ∙ e.0, room.same ∙ e.1)
 
 pub returns-then-not-codes_fit : goal.returns-then-not-codes_fit
 returns-then-not-codes_fit c =
-    bad_codes _ _ c.if-book-ne-BOOK_BYTES.false c.if-codes-ne32.false
-    (ap (all is_code) (sym c.table_of-table.ensures) ∙ sym c.codes_fit.ensures ∙ c.if-not-codes_fit.true)
+    let room = rw c.in_ok-room.ensures.ok_part at c.as_mut_array.ensures.cases in
+    let table = rw c.in_ok-table.ensures.ok_part at c.as_array.ensures.cases in
+    let e = bad_codes _ _ room.long table.long (ap (all is_code) (sym table.same) ∙ sym c.codes_fit.ensures ∙ c.if-not-codes_fit.true) in
+    (e.0, room.same ∙ e.1)
 
 pub returns : goal.returns
 returns c =
-    created _ _ _ c.if-book-ne-BOOK_BYTES.false c.if-codes-ne32.false
-    (ap (all is_code) (sym c.table_of-table.ensures) ∙ sym c.codes_fit.ensures ∙ c.if-not-codes_fit.false)
-    (c.store.ensures ∙ ap bytes_of (c.empty_book-fresh.ensures ∙ ap empty_book c.table_of-table.ensures))
+    let room = rw c.in_ok-room.ensures.ok_part at c.as_mut_array.ensures.cases in
+    let table = rw c.in_ok-table.ensures.ok_part at c.as_array.ensures.cases in
+    created _ _ _ room.long table.long (ap (all is_code) (sym table.same) ∙ sym c.codes_fit.ensures ∙ c.if-not-codes_fit.false)
+    (c.store.ensures ∙ ap bytes_of (c.empty_book.ensures ∙ ap empty_book table.same))

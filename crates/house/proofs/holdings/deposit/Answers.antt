@@ -1,10 +1,8 @@
 -- `house::holdings::deposit` meets its contract: no sound book, or the call's own answer. Assumes nothing.
-use mathlib.Core.Path.{sym, ◌∙◌}
-use Rattle.house.specs.Lent.{unsound}
+use Rattle.house.proofs.Unsound.{call_unsound}
 use Rattle.house.proofs.holdings.deposit.Goals as goal
 
-pub returns-then-not_sound : goal.returns-then-not_sound
-returns-then-not_sound c = unsound _ (sym c.not_sound.ensures ∙ c.if-not_sound.true) _
-
-pub deposit-requires : goal.deposit-requires
-deposit-requires c = sym c.not_sound.ensures ∙ c.if-not_sound.false
+pub returns-in_err-sound : goal.returns-in_err-sound
+returns-in_err-sound c =
+    let none = c.in_err-sound.ensures in
+    call_unsound _ (rw none.ok_part at c.sound_book_mut.ensures.value) _ _ none.ok_part none.value _ _ c.from_residual.ensures.1

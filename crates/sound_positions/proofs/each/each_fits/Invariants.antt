@@ -1,8 +1,5 @@
 -- `sound_positions::each::each_fits` meets its contract. The records before i ascend and pass the test. Assumes nothing.
-use mathlib.Core.Path.{◌≡◌}
-use mathlib.Core.Bool.{true}
-use Prim.Native.Nat.{◌≤◌, ◌-◌}
-use lib.ListN.{take}
+use Rattle.std.proofs.Common.{◌≡◌, true, take}
 use Rattle.rules.specs.Words.{all}
 use Rattle.rules.specs.Layout.{book_of}
 use Rattle.rules.specs.Sound.{ascends}
@@ -11,9 +8,8 @@ use Rattle.sound_positions.specs.Each.{record_fits}
 use Rattle.sound_positions.proofs.each.each_fits.Given as goal
 
 abbrev pub invariant-loop-i : goal.invariant-loop-i
-invariant-loop-i l =
-    (l.i ≤ l.n) × ((l.least ≡ least_at (book_of l.b).positions l.i)
-    × ((ascends (take l.i (book_of l.b).positions) ≡ true) × (all (record_fits (book_of l.b).day) (take l.i (book_of l.b).positions) ≡ true)))
-
-abbrev pub decreases-loop-i : goal.decreases-loop-i
-decreases-loop-i l = l.n - l.i
+invariant-loop-i l = record {
+  least : l.least ≡ least_at (book_of l.b).positions l.i;
+  ascend : ascends (take l.i (book_of l.b).positions) ≡ true;
+  fit : all (record_fits (book_of l.b).day) (take l.i (book_of l.b).positions) ≡ true;
+}

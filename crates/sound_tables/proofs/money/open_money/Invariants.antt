@@ -1,5 +1,4 @@
 -- `sound_tables::money::open_money` meets its contract. The loop's invariant: with the records from `i` on, the sums make the whole. Assumes nothing.
-use Prim.Native.Nat.{◌≤◌, ◌-◌}
 use Rattle.units.specs.Units.{most_mils}
 use Rattle.rules.specs.Book.{open_of}
 use Rattle.rules.specs.Layout.{book_of}
@@ -8,7 +7,4 @@ use Rattle.sound_tables.specs.Stakes.{place_at, size_of}
 use Rattle.sound_tables.proofs.money.open_money.Given as goal
 
 abbrev pub invariant-loop-i : goal.invariant-loop-i
-invariant-loop-i l = (l.i ≤ l.n) × Gathered (place_at (book_of l.b)) size_of 256 most_mils l.sums (open_of (book_of l.b)) l.i
-
-abbrev pub decreases-loop-i : goal.decreases-loop-i
-decreases-loop-i l = l.n - l.i
+invariant-loop-i l = Gathered (place_at (book_of l.b)) size_of 256 most_mils l.sums (open_of (book_of l.b)) l.i

@@ -1,9 +1,5 @@
 -- `sound_tables::numbers::numbers_distinct` meets its contract. The loop's invariant: the numbers before `i` are distinct, and just their flags are up. Assumes nothing.
-use mathlib.Core.Path.{◌≡◌}
-use mathlib.Core.Bool.{true}
-use mathlib.Core.List.{List, map}
-use Prim.Native.Nat.{ℕ, ◌≤◌, ◌-◌}
-use lib.ListN.{take}
+use Rattle.std.proofs.Common.{◌≡◌, true, List, ℕ, map, take}
 use Rattle.rules.specs.Book.{list_of}
 use Rattle.rules.specs.Layout.{book_of}
 use Rattle.rules.specs.Sound.{distinct}
@@ -15,7 +11,7 @@ abbrev pub numbers : Book → List ℕ
 numbers k = map (λ t. t.number) (list_of k)
 
 abbrev pub invariant-loop-i : goal.invariant-loop-i
-invariant-loop-i l = (l.i ≤ l.n) × (Flagged l.used (take l.i (numbers (book_of l.b))) × (distinct (take l.i (numbers (book_of l.b))) ≡ true))
-
-abbrev pub decreases-loop-i : goal.decreases-loop-i
-decreases-loop-i l = l.n - l.i
+invariant-loop-i l = record {
+  flagged : Flagged l.used (take l.i (numbers (book_of l.b)));
+  apart : distinct (take l.i (numbers (book_of l.b))) ≡ true;
+}

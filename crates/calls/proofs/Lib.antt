@@ -1,0 +1,2 @@
+-- Lemmas of the calls' proofs: a refusal, as its call answers it.
+pub mod Refused
