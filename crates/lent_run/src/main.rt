@@ -16,7 +16,7 @@ fn print_number(rt: &impl Print, n: u64) -> io::Result<()> {
 }
 
 // The number of an answer: 0, or the refusal's.
-fn print_answer<T>(rt: &impl Print, answer: Result<T, Refusal>) -> io::Result<()> {
+fn print_answer<T: Drop>(rt: &impl Print, answer: Result<T, Refusal>) -> io::Result<()> {
     print_number(rt, number_of(&answer) as u64)
 }
 

@@ -150,7 +150,11 @@ fn tallied(rt: &impl Print) -> io::Result<()> {
     let second = print_counted(rt, lines::put_counted(&mut buffer, line, first), first)?;
     print_counted(rt, lines::put_counted(&mut short, line, second), second)?;
     let third = print_counted(rt, lines::put_counted(&mut buffer, line, second), second)?;
-    print_counted(rt, lines::put_counted(&mut buffer, Line::End(0), third), third)?;
+    print_counted(
+        rt,
+        lines::put_counted(&mut buffer, Line::End(0), third),
+        third,
+    )?;
     print_text(rt, b"\n")?;
     print_text(rt, &buffer)
 }

@@ -2,13 +2,13 @@
 // nothing is altered where the sheet does not fit.
 #![tactic(auto)]
 
-ghost use Rattle.std.specs.Prelude.{◌≡◌, cond, ◌++◌, ◌≤◌, length, drop};
+ghost use Rattle.std.specs.Prelude.{◌≡◌, ◌++◌, ◌≤◌, length, drop};
 ghost use Rattle.rules.specs.Refusals.{answered, value_or};
 ghost use Rattle.rules.specs.Words.{each};
 ghost use Rattle.rules.specs.Bounds.{most_file};
-ghost use Rattle.rules.specs.Layout.{book_length, bytes_of};
 ghost use Rattle.rules.specs.Sheet.{text_of, refused_sheet, sheet_of, sheet_answer, sheet_size, sheet_bytes, sheet_book};
 ghost use Rattle.sheet_laws.specs.Bounded.{most_bytes};
+ghost use Rattle.sheet.specs.OfBook.{book_in};
 ghost use Rattle.sheets.specs.Sheets.{Printed, Written, Room, room_for_answers};
 
 use book::{BOOK_BYTES, BookBytes};
@@ -83,7 +83,7 @@ fn played_sheet(book: &mut BookBytes, file: &[u8], buffer: &mut [u8]) -> Result<
     requires { length file.now ≤ most_file }
     ensures { Written file.now book.old buffer.old (answered result) (value_or 0 result) book.new buffer.new }
 {
-    let mut room = [0u8; 42278];
+    let mut room: BookBytes = [0; BOOK_BYTES];
     let mut answers = [0u8; 196614];
     sheet_in(&mut room, &mut answers, file, book, buffer)
 }
@@ -96,7 +96,9 @@ pub fn sheet(book: &mut [u8], file: &[u8], buffer: &mut [u8]) -> Result<usize, R
         × (book.new ≡ sheet_book book.old file.now buffer.old)
         × (value_or 0 result ≤ length buffer.old) }
 {
-    let book = book.as_mut_array().ok_or(Refusal::Length)?;
+    let Some(book) = book.as_mut_array() else {
+        return Err(Refusal::Length);
+    };
     if file.len() > 65_535 {
         return refused_sheet(buffer);
     }
@@ -110,7 +112,7 @@ pub fn sheet_of(file: &[u8], buffer: &mut [u8]) -> usize
         × (buffer.new ≡ sheet_of file.now ++ drop (length (sheet_of file.now)) buffer.old) }
 {
     let mut book = [0u8; 42278];
-    sheet(&mut book, file, buffer).unwrap()
+    sheet(&mut book, file, buffer).unwrap_or(0)
 }
 
 // The same with the part handed back: all of the sheet, from the front of the buffer.

@@ -1,7 +1,7 @@
 -- Answers as the exported functions hand them out: a number, and figures of their own. No figure of a run or of a record is below zero, so
 -- that it is an unsigned number.
-use Rattle.std.specs.Prelude.{◌≡◌, refl, Bool, true, false, cond, List, [], ◌∷◌, ℕ, ◌+◌, eqb, drop, ℤ, Result, Ok, Err}
-use Rattle.std.proofs.Common.{sym, ◌∙◌}
+use Rattle.std.specs.Prelude.{◌≡◌, refl, Bool, true, false, cond, List, [], ◌∷◌, ℕ, ◌+◌, eqb, length, get_or, drop, map, ℤ, Result, Ok, Err}
+use Rattle.std.proofs.Common.{sym, ◌∙◌, arith}
 use Rattle.std.proofs.Math.Path.{ap}
 use Rattle.std.proofs.Math.IntN.{pos, nat_abs}
 use Rattle.units.specs.Units.{shares_of, mils_of, shares}
@@ -74,14 +74,24 @@ module _ (bs : List ℕ) (s : ℕ) where
 
 -- ── the answer of marks, by its cases ──
 
+-- the four sums one by one
+pub four_sums : (d : Mils) (sums : List Mils) → length sums ≡ 4
+    → mils_of (get_or sums 0 d) ∷ mils_of (get_or sums 1 d) ∷ mils_of (get_or sums 2 d) ∷ mils_of (get_or sums 3 d) ∷ [] ≡ map mils_of sums
+four_sums d [] h = absurd (omega arith)
+four_sums d (x ∷ []) h = absurd (omega arith)
+four_sums d (x ∷ y ∷ []) h = absurd (omega arith)
+four_sums d (x ∷ y ∷ z ∷ []) h = absurd (omega arith)
+four_sums d (x ∷ y ∷ z ∷ w ∷ []) h = refl
+four_sums d (x ∷ y ∷ z ∷ w ∷ v ∷ l) h = absurd (omega arith)
+
 module _ (all : Result Marks ℕ) where
   abbrev Marked : ℕ → List ℤ → Type 0
   Marked number figures = (number ≡ number_of_marks all) × (figures ≡ figures_of_marks all)
 
-  pub due_told : (d a b c e : Mils) → Due d a b c e ≡ all → (v w x y z : ℤ)
-      → v ≡ mils_of d → w ≡ mils_of a → x ≡ mils_of b → y ≡ mils_of c → z ≡ mils_of e → Marked 0 (v ∷ w ∷ x ∷ y ∷ z ∷ [])
+  pub due_told : (m : Marks) → Ok m ≡ all → (v w x y z : ℤ) → v ≡ mils_of m.due → w ∷ x ∷ y ∷ z ∷ [] ≡ map mils_of m.sums
+      → Marked 0 (v ∷ w ∷ x ∷ y ∷ z ∷ [])
   unfolding number_of_marks figures_of_marks
-  due_told d a b c e h v w x y z ev ew ex ey ez = (ap number_of_marks h, rw (ev, ew, ex, ey, ez) (ap figures_of_marks h))
+  due_told m h v w x y z ev es = (ap number_of_marks h, rw (ev, es) (ap figures_of_marks h))
 
   pub marks_refused_told : (n : ℕ) → Err n ≡ all → Marked n (pos 0 ∷ pos 0 ∷ pos 0 ∷ pos 0 ∷ pos 0 ∷ [])
   unfolding number_of_marks figures_of_marks

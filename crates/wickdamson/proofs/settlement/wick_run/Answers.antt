@@ -1,16 +1,16 @@
 -- `wickdamson::settlement::wick_run` meets its contract: shares moved, or refused. Assumes nothing.
-use mathlib.Core.Path.{sym, ◌∙◌}
+use Rattle.std.proofs.Common.{◌∙◌}
 use Rattle.wickdamson.specs.Figures.{moved_told, refused_told}
 use Rattle.wickdamson.proofs.settlement.wick_run.Goals as goal
 
-pub returns-in-Moved : goal.returns-in-Moved
-returns-in-Moved c =
-    let e = rw c.byte_of-s.ensures at c.run-answer.ensures in
-    let t = moved_told _ _ _ (sym c.in-Moved.is ∙ e.0) _ c.size.ensures in
+pub returns-in-Ok : goal.returns-in-Ok
+returns-in-Ok c =
+    let e = rw c.byte_of-s.ensures at c.in-Ok.ensures in
+    let t = moved_told _ _ _ e.0 _ c.size.ensures in
     (t.0, t.1, e.1)
 
-pub returns-in-RunRefused : goal.returns-in-RunRefused
-returns-in-RunRefused c =
-    let e = rw c.byte_of-s.ensures at c.run-answer.ensures in
-    let t = refused_told _ _ _ (sym c.in-RunRefused.is ∙ e.0) in
-    (t.0, t.1, e.1)
+pub returns-in-Err : goal.returns-in-Err
+returns-in-Err c =
+    let e = rw c.byte_of-s.ensures at c.in-Err.ensures in
+    let t = refused_told _ _ _ e.0 in
+    (c.into.ensures ∙ t.0, t.1, e.1)
