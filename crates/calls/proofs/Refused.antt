@@ -1,5 +1,5 @@
 -- A call on a sound book that is refused: the refusal goes out as its number, which is not 0, and the bytes stay.
-use Rattle.std.proofs.Common.{◌≡◌, ◌≢◌, List, ℕ, false, Result, Ok, Err, ap, ◌∙◌, arith}
+use Rattle.std.proofs.Common.{◌≡◌, List, ℕ, false, Result, Ok, Err, ap, ◌∙◌}
 use Rattle.std.specs.Result.{IsErrAnd}
 use Rattle.units.specs.declared.Shares.{Shares}
 use Rattle.rules.specs.Layout.{book_of}
@@ -7,29 +7,9 @@ use Rattle.rules.specs.Refusals.{number_of, answered, numbered}
 use Rattle.rules.specs.Sound.{not_sound}
 use Rattle.rules.specs.Calls.{Call, run, answer_sound, answer_bytes, after_bytes, run_answer}
 use Rattle.rules.specs.declared.Refusal.{Refusal}
-use Rattle.rules.specs.declared.Refusal.TheVariants.{Unsound, Account, Security, Quantity, Price, SameAccount, NumberUsed, NoSuchTrade, ListFull, TableFull, NotHeld, HeldPastMost, MoreThanWanted, LastDay, Rates, TotalPastLimit, NoPrice, Length}
+use Rattle.laws.specs.RefusalNumbers.{number_some}
 use Rattle.laws.specs.SoundBytes.{refused}
 use Rattle.calls.specs.Runs.{run_refused}
-
-pub number_some : (r : Refusal) → number_of r ≢ 0
-number_some Unsound e = omega arith
-number_some Account e = omega arith
-number_some Security e = omega arith
-number_some Quantity e = omega arith
-number_some Price e = omega arith
-number_some SameAccount e = omega arith
-number_some NumberUsed e = omega arith
-number_some NoSuchTrade e = omega arith
-number_some ListFull e = omega arith
-number_some TableFull e = omega arith
-number_some NotHeld e = omega arith
-number_some HeldPastMost e = omega arith
-number_some MoreThanWanted e = omega arith
-number_some LastDay e = omega arith
-number_some Rates e = omega arith
-number_some TotalPastLimit e = omega arith
-number_some NoPrice e = omega arith
-number_some Length e = omega arith
 
 -- r is what a test refuses with, and `answer` is what `?` hands on of it
 pub handed_on : {A : Type 0} (answer : Result A Refusal) (r : Refusal) → IsErrAnd answer (λ e. e ≡ r) → answered answer ≡ number_of r

@@ -31,14 +31,14 @@ fn common_fits(b: &BookBytes, account: u8, security: u8, quantity: u64) -> Resul
     ensures { answered result ≡ common_refusal (book_of b.now) account security quantity }
 {
     if account > 63 {
-        return Err(Refusal::Account);
+        return Err(Refusal::NoAccount);
     }
     let codes = codes_of(b);
     if bad_security(codes, security) {
-        return Err(Refusal::Security);
+        return Err(Refusal::NoSecurity);
     }
     if bad_deposit(quantity) {
-        return Err(Refusal::Quantity);
+        return Err(Refusal::BadQuantity);
     }
     Ok(())
 }
@@ -52,7 +52,7 @@ fn may_deposit(b: &BookBytes, account: u8, security: u8, quantity: u64) -> Resul
     let s = security as usize;
     let most = 1_000_000_000_000 - quantity;
     if !total_fits(b, s, most) {
-        return Err(Refusal::HeldPastMost);
+        return Err(Refusal::TooMuchHeld);
     }
     Ok(())
 }

@@ -18,7 +18,7 @@ pub fn run(book: &mut BookBytes, security: u8) -> Result<Shares, Refusal>
 {
     let codes = codes_of(book);
     if bad_security(codes, security) {
-        return Err(Refusal::Security);
+        return Err(Refusal::NoSecurity);
     }
     let gives = deliverable_of(book, security);
     if gives.0 == 0 {

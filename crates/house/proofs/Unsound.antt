@@ -7,7 +7,7 @@ use Rattle.rules.specs.Refusals.{answered, numbered}
 use Rattle.rules.specs.Sound.{not_sound}
 use Rattle.rules.specs.Calls.{Call, run, answer_bytes, after_bytes, run_answer}
 use Rattle.rules.specs.declared.Refusal.{Refusal}
-use Rattle.rules.specs.declared.Refusal.TheVariants.{Unsound}
+use Rattle.rules.specs.declared.Refusal.TheVariants.{NotSound}
 use Rattle.house.specs.Lent.{unsound, run_unsound}
 
 -- the refusal q that `?` hands on is r
@@ -17,13 +17,13 @@ handed_on o r q (Ok x) n e h = absurd h
 handed_on (Some y) r q (Err p) n e h = cc
 handed_on None r q (Err p) n e h = let f : q ≡ r = cc in ap Err (h ∙ f)
 
-module _ (bs : List ℕ) (no : not_sound bs ≡ true) {A : Type 0} (o : Option A) (q : Refusal) (none : o ≡ None) (is : Err q ≡ ok_or o Unsound) where
+module _ (bs : List ℕ) (no : not_sound bs ≡ true) {A : Type 0} (o : Option A) (q : Refusal) (none : o ≡ None) (is : Err q ≡ ok_or o NotSound) where
   pub call_unsound : (c : Call) (answer : Result (Unit {0}) Refusal) → IsErrAnd answer (λ e. e ≡ q) → (answered answer ≡ answer_bytes bs c) × (bs ≡ after_bytes bs c)
   call_unsound c answer h =
       let u = unsound bs no c in
-      (ap answered (handed_on o Unsound q answer none is h) ∙ u.0, u.1)
+      (ap answered (handed_on o NotSound q answer none is h) ∙ u.0, u.1)
 
   pub run_is_unsound : (s : ℕ) (answer : Result Shares Refusal) → IsErrAnd answer (λ e. e ≡ q) → (numbered answer ≡ run_answer bs s) × (bs ≡ after_bytes bs (run s))
   run_is_unsound s answer h =
       let u = run_unsound bs no s in
-      (ap numbered (handed_on o Unsound q answer none is h) ∙ u.0, u.1)
+      (ap numbered (handed_on o NotSound q answer none is h) ∙ u.0, u.1)

@@ -45,10 +45,10 @@ pub fn create(book: &mut [u8], codes: &[u8]) -> Result<(), Refusal>
     ensures { (answered result ≡ create_answer book.old codes.now)
         × (book.new ≡ create_bytes book.old codes.now) }
 {
-    let room = book.as_mut_array().ok_or(Refusal::Length)?;
-    let table = *codes.as_array().ok_or(Refusal::Length)?;
+    let room = book.as_mut_array().ok_or(Refusal::WrongLength)?;
+    let table = *codes.as_array().ok_or(Refusal::WrongLength)?;
     if !codes_fit(table) {
-        return Err(Refusal::Security);
+        return Err(Refusal::NoSecurity);
     }
     store(empty_book(table), room);
     Ok(())

@@ -10,7 +10,7 @@ pub fn deposit(book: &mut [u8], account: u8, security: u8, quantity: u64) -> Res
     ensures { (answered result ≡ answer_bytes book.old (deposit account security quantity))
         × (book.new ≡ after_bytes book.old (deposit account security quantity)) }
 {
-    let sound = sound_book_mut(book).ok_or(Refusal::Unsound)?;
+    let sound = sound_book_mut(book).ok_or(Refusal::NotSound)?;
     calls::deposit(sound, account, security, quantity)
 }
 
@@ -18,6 +18,6 @@ pub fn withdraw(book: &mut [u8], account: u8, security: u8, quantity: u64) -> Re
     ensures { (answered result ≡ answer_bytes book.old (withdraw account security quantity))
         × (book.new ≡ after_bytes book.old (withdraw account security quantity)) }
 {
-    let sound = sound_book_mut(book).ok_or(Refusal::Unsound)?;
+    let sound = sound_book_mut(book).ok_or(Refusal::NotSound)?;
     calls::withdraw(sound, account, security, quantity)
 }

@@ -19,6 +19,6 @@ pub fn marks(
         × (number_of_marks (numbered result) ≡ marks_number book.now account (terms intraday.now closing.now rates.now haircuts.now))
         × (figures_of_marks (numbered result) ≡ marks_figures book.now account (terms intraday.now closing.now rates.now haircuts.now)) }
 {
-    let sound = sound_book(book).ok_or(Refusal::Unsound)?;
+    let sound = sound_book(book).ok_or(Refusal::NotSound)?;
     marks_of(sound, account, intraday, closing, rates, haircuts)
 }

@@ -12,7 +12,7 @@ pub fn roll(book: &mut [u8]) -> Result<(), Refusal>
     ensures { (answered result ≡ answer_bytes book.old roll)
         × (book.new ≡ after_bytes book.old roll) }
 {
-    let sound = sound_book_mut(book).ok_or(Refusal::Unsound)?;
+    let sound = sound_book_mut(book).ok_or(Refusal::NotSound)?;
     calls_rolls::roll(sound)
 }
 
@@ -22,6 +22,6 @@ pub fn run(book: &mut [u8], security: u8) -> Result<Shares, Refusal>
         × (number_of_run (numbered result) ≡ answer_bytes book.old (run security))
         × (figure_of_run (numbered result) ≡ pos (figure_bytes book.old (run security))) }
 {
-    let sound = sound_book_mut(book).ok_or(Refusal::Unsound)?;
+    let sound = sound_book_mut(book).ok_or(Refusal::NotSound)?;
     calls::run(sound, security)
 }

@@ -10,7 +10,7 @@ pub fn enter(book: &mut [u8], trade: Trade) -> Result<(), Refusal>
     ensures { (answered result ≡ answer_bytes book.old (enter trade))
         × (book.new ≡ after_bytes book.old (enter trade)) }
 {
-    let sound = sound_book_mut(book).ok_or(Refusal::Unsound)?;
+    let sound = sound_book_mut(book).ok_or(Refusal::NotSound)?;
     calls::enter(sound, trade)
 }
 
@@ -18,7 +18,7 @@ pub fn amend(book: &mut [u8], trade: Trade) -> Result<(), Refusal>
     ensures { (answered result ≡ answer_bytes book.old (amend trade))
         × (book.new ≡ after_bytes book.old (amend trade)) }
 {
-    let sound = sound_book_mut(book).ok_or(Refusal::Unsound)?;
+    let sound = sound_book_mut(book).ok_or(Refusal::NotSound)?;
     calls::amend(sound, trade)
 }
 
@@ -26,6 +26,6 @@ pub fn exclude(book: &mut [u8], number: u16) -> Result<(), Refusal>
     ensures { (answered result ≡ answer_bytes book.old (exclude number))
         × (book.new ≡ after_bytes book.old (exclude number)) }
 {
-    let sound = sound_book_mut(book).ok_or(Refusal::Unsound)?;
+    let sound = sound_book_mut(book).ok_or(Refusal::NotSound)?;
     calls::exclude(sound, number)
 }

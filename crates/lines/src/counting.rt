@@ -28,7 +28,7 @@ pub fn count_line(room: usize, l: Line, tally: Tally) -> Result<Tally, Refusal>
 {
     let size = line_width(l);
     if !passes(room, size, tally) {
-        return Err(Refusal::Length);
+        return Err(Refusal::WrongLength);
     }
     Ok(Tally {
         lines: tally.lines + 1,

@@ -40,7 +40,7 @@ fn answer_of(t: PerCurrency, rates: &[u32; 4], haircuts: &[u32; 4]) -> Result<Ma
     requires { Rates rates.now haircuts.now }
     ensures { numbered result ≡ answer_of t.sums rates.now haircuts.now }
 {
-    let past = Refusal::TotalPastLimit;
+    let past = Refusal::TotalTooLarge;
     let up = converted_total(Side::Favourable, t, rates, haircuts).ok_or(past)?;
     let down = converted_total(Side::Unfavourable, t, rates, haircuts).ok_or(past)?;
     Ok(due_of(t, Amount(up), Amount(down)))

@@ -84,14 +84,14 @@ pub fn terms_fit<'a>(
     ensures lent { IfOk result (λ t. terms t.tables.intraday.now t.tables.closing.now t.rates.now t.haircuts.now ≡ terms intraday.now closing.now rates.now haircuts.now) }
 {
     if account > LAST_ACCOUNT {
-        return Err(Refusal::Account);
+        return Err(Refusal::NoAccount);
     }
-    let terms = terms_of(intraday, closing, rates, haircuts).ok_or(Refusal::Length)?;
+    let terms = terms_of(intraday, closing, rates, haircuts).ok_or(Refusal::WrongLength)?;
     if prices_above(terms.tables) {
-        return Err(Refusal::Price);
+        return Err(Refusal::BadPrice);
     }
     if bad_rates(terms.rates, terms.haircuts) {
-        return Err(Refusal::Rates);
+        return Err(Refusal::BadRate);
     }
     Ok(terms)
 }

@@ -20,10 +20,6 @@ use Rattle.marking_prices.specs.Looking.{fails_at}
 abbrev pub high_at : List ℕ → ℕ → Bool
 high_at table s = above top_price (entry_of table s)
 
--- no refusal has the number 0
-pub number_some : (r : Refusal) → number_of r ≡ 0 → ⊥
-number_some r e = grind arith
-
 -- ── two tables of 32 entries ──
 
 pub record Tables (intraday closing : List ℕ) : Type 0 where

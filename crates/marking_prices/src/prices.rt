@@ -77,12 +77,12 @@ fn asked<'a>(
     ensures number { answered result ≡ price_answer intraday.now closing.now security }
     ensures lent { IfOk result (λ t. (t.intraday.now ≡ intraday.now) × (t.closing.now ≡ closing.now)) }
 {
-    let tables = tables_of(intraday, closing).ok_or(Refusal::Length)?;
+    let tables = tables_of(intraday, closing).ok_or(Refusal::WrongLength)?;
     if security > 31 {
-        return Err(Refusal::Security);
+        return Err(Refusal::NoSecurity);
     }
     if prices_above(tables) {
-        return Err(Refusal::Price);
+        return Err(Refusal::BadPrice);
     }
     if price_of(tables, security as usize).0 == 0 {
         return Err(Refusal::NoPrice);

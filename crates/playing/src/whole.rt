@@ -66,14 +66,14 @@ pub fn play(book: &mut [u8], file: &[u8], answers: &mut [u8]) -> Result<usize, R
         × (book.new ≡ whole_bytes book.old file.now answers.old) }
 {
     if file.len() > 65_535 {
-        return Err(Refusal::Length);
+        return Err(Refusal::WrongLength);
     }
     let Some(book) = book.as_mut_array() else {
-        return Err(Refusal::Length);
+        return Err(Refusal::WrongLength);
     };
     let size = 9 * count_answers(file);
     if answers.len() < size {
-        return Err(Refusal::Length);
+        return Err(Refusal::WrongLength);
     }
     play_records(book, file, answers);
     Ok(size)

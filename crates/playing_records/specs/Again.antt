@@ -20,7 +20,8 @@ use Rattle.callfile_format.specs.declared.reading.Read.{Read}
 use Rattle.callfile_format.specs.declared.reading.Read.TheVariants as read
 use Rattle.playing_records.specs.declared.applying.Answer.{Answer}
 use Rattle.playing_records.specs.declared.applying.Answer.TheVariants.{Refused}
-use Rattle.playing_records.specs.Answers.{number_in, figure_in, refusal_in, some_number}
+use Rattle.laws.specs.RefusalNumbers.{number_some}
+use Rattle.playing_records.specs.Answers.{number_in, figure_in, refusal_in}
 use Rattle.playing_records.specs.Applying.{call_in, number_by, figure_by, bytes_by, Applied}
 
 abbrev pub is_roll : Option Read → Bool
@@ -56,7 +57,7 @@ module _ (bs : List ℕ) (place : ℕ) (found : Option Read) where
   unfolding number_by figure_by bytes_by
   same_again e r known =
       let h = roll_read found e in
-      let not_taken : answer_bytes bs roll ≢ 0 = λ z. some_number r (sym known ∙ z) in
+      let not_taken : answer_bytes bs roll ≢ 0 = λ z. number_some r (sym known ∙ z) in
       rw h (sym known, sym (call_zero bs roll not_taken), sym (call_keeps bs roll not_taken))
 
 -- ── what is known behind a record ──
@@ -88,7 +89,7 @@ module _ (bs : List ℕ) (fine : not_sound bs ≡ false) (same : bytes_of (book_
   unfolding number_by bytes_by
   behind_roll place found (Refused r) new a y =
       let e : number_of r ≡ answer_bytes bs roll = a.0 ∙ ap (number_by bs) (roll_read found y) in
-      let kept : new ≡ bs = a.2 ∙ refused_keeps (call_in found) (λ z. some_number r (a.0 ∙ z)) in
+      let kept : new ≡ bs = a.2 ∙ refused_keeps (call_in found) (λ z. number_some r (a.0 ∙ z)) in
       ap (λ (l : List ℕ). answer_bytes l roll) kept ∙ sym e
   behind_roll place found _ new a y = tt
 

@@ -1,9 +1,7 @@
 -- What a record is answered: the paper's number of an answer, its figure, and the refusal that it is, if it is one.
-use Rattle.std.specs.Prelude.{Option, Some, None, ℕ, ◌≢◌}
-use Rattle.std.proofs.Common.{arith}
+use Rattle.std.specs.Prelude.{Option, Some, None, ℕ}
 use Rattle.rules.specs.Refusals.{number_of}
 use Rattle.rules.specs.declared.Refusal.{Refusal}
-use Rattle.rules.specs.declared.Refusal.TheVariants.{Unsound}
 use Rattle.playing_records.specs.declared.applying.Answer.{Answer}
 use Rattle.playing_records.specs.declared.applying.Answer.TheVariants.{Accepted, Refused, Unreadable}
 
@@ -21,8 +19,3 @@ abbrev pub refusal_in : Answer → Option Refusal
 refusal_in (Accepted moved) = None
 refusal_in (Refused r) = Some r
 refusal_in (Unreadable place) = None
-
--- a refusal has a number
-pub some_number : (r : Refusal) → number_of r ≢ 0
-some_number Unsound e = omega arith
-some_number _ e = omega arith

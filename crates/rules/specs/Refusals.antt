@@ -2,27 +2,27 @@
 -- is told with that number.
 use Rattle.std.specs.Prelude.{ℕ, Result, Ok, Err}
 use Rattle.rules.specs.declared.Refusal.{Refusal}
-use Rattle.rules.specs.declared.Refusal.TheVariants.{Unsound, Account, Security, Quantity, Price, SameAccount, NumberUsed, NoSuchTrade, ListFull, TableFull, NotHeld, HeldPastMost, MoreThanWanted, LastDay, Rates, TotalPastLimit, NoPrice, Length}
+use Rattle.rules.specs.declared.Refusal.TheVariants.{NotSound, NoAccount, NoSecurity, BadQuantity, BadPrice, SameAccount, BadNumber, NoTrade, ListFull, TableFull, NotHeld, TooMuchHeld, TooMuchDelivered, LastDay, BadRate, TotalTooLarge, NoPrice, WrongLength}
 
 abbrev pub number_of : Refusal → ℕ
-number_of Unsound = 1
-number_of Account = 2
-number_of Security = 3
-number_of Quantity = 4
-number_of Price = 5
+number_of NotSound = 1
+number_of NoAccount = 2
+number_of NoSecurity = 3
+number_of BadQuantity = 4
+number_of BadPrice = 5
 number_of SameAccount = 6
-number_of NumberUsed = 7
-number_of NoSuchTrade = 8
+number_of BadNumber = 7
+number_of NoTrade = 8
 number_of ListFull = 9
 number_of TableFull = 10
 number_of NotHeld = 11
-number_of HeldPastMost = 12
-number_of MoreThanWanted = 13
+number_of TooMuchHeld = 12
+number_of TooMuchDelivered = 13
 number_of LastDay = 14
-number_of Rates = 15
-number_of TotalPastLimit = 16
+number_of BadRate = 15
+number_of TotalTooLarge = 16
 number_of NoPrice = 17
-number_of Length = 18
+number_of WrongLength = 18
 
 -- the number that an answer goes by: 0 where the call is accepted
 abbrev pub answered : {A : Type 0} → Result A Refusal → ℕ

@@ -42,24 +42,24 @@ pub struct Book {
 // Why a call is refused (document 01, "Refusal numbers"), in the order of the numbers: 1 is the first. (19 is no refusal of a call.)
 #[derive(Clone, Copy)]
 pub enum Refusal {
-    Unsound,
-    Account,
-    Security,
-    Quantity,
-    Price,
+    NotSound,
+    NoAccount,
+    NoSecurity,
+    BadQuantity,
+    BadPrice,
     SameAccount,
-    NumberUsed,
-    NoSuchTrade,
+    BadNumber,
+    NoTrade,
     ListFull,
     TableFull,
     NotHeld,
-    HeldPastMost,
-    MoreThanWanted,
+    TooMuchHeld,
+    TooMuchDelivered,
     LastDay,
-    Rates,
-    TotalPastLimit,
+    BadRate,
+    TotalTooLarge,
     NoPrice,
-    Length,
+    WrongLength,
 }
 
 // The number that a refusal goes out as.
@@ -68,24 +68,24 @@ impl From<Refusal> for u8 {
 
     fn from(r: Refusal) -> u8 {
         match r {
-            Refusal::Unsound => 1,
-            Refusal::Account => 2,
-            Refusal::Security => 3,
-            Refusal::Quantity => 4,
-            Refusal::Price => 5,
+            Refusal::NotSound => 1,
+            Refusal::NoAccount => 2,
+            Refusal::NoSecurity => 3,
+            Refusal::BadQuantity => 4,
+            Refusal::BadPrice => 5,
             Refusal::SameAccount => 6,
-            Refusal::NumberUsed => 7,
-            Refusal::NoSuchTrade => 8,
+            Refusal::BadNumber => 7,
+            Refusal::NoTrade => 8,
             Refusal::ListFull => 9,
             Refusal::TableFull => 10,
             Refusal::NotHeld => 11,
-            Refusal::HeldPastMost => 12,
-            Refusal::MoreThanWanted => 13,
+            Refusal::TooMuchHeld => 12,
+            Refusal::TooMuchDelivered => 13,
             Refusal::LastDay => 14,
-            Refusal::Rates => 15,
-            Refusal::TotalPastLimit => 16,
+            Refusal::BadRate => 15,
+            Refusal::TotalTooLarge => 16,
             Refusal::NoPrice => 17,
-            Refusal::Length => 18,
+            Refusal::WrongLength => 18,
         }
     }
 }

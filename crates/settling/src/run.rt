@@ -24,7 +24,7 @@ pub fn may_run(b: &BookBytes, security: u8, gives: Quantity) -> Result<(), Refus
 {
     let wants = wanted_of(b, security);
     if gives.0 > wants.0 {
-        return Err(Refusal::MoreThanWanted);
+        return Err(Refusal::TooMuchDelivered);
     }
     Ok(())
 }

@@ -35,7 +35,7 @@ fn refused_sheet(buffer: &mut [u8]) -> Result<usize, Refusal>
     ensures { Printed (each text_of refused_sheet) buffer.old (answered result) (value_or 0 result) buffer.new }
 {
     if buffer.len() < refused_width() {
-        return Err(Refusal::Length);
+        return Err(Refusal::WrongLength);
     }
     Ok(put_refused(buffer))
 }
@@ -54,7 +54,7 @@ fn put_played(
     let count = count_answers(file);
     let left = book_in(room, answers);
     if buffer.len() < sheet_width(answers, count, left) {
-        return Err(Refusal::Length);
+        return Err(Refusal::WrongLength);
     }
     let size = put_sheet(answers, count, left, buffer);
     if let Some(k) = left {
@@ -97,7 +97,7 @@ pub fn sheet(book: &mut [u8], file: &[u8], buffer: &mut [u8]) -> Result<usize, R
         × (value_or 0 result ≤ length buffer.old) }
 {
     let Some(book) = book.as_mut_array() else {
-        return Err(Refusal::Length);
+        return Err(Refusal::WrongLength);
     };
     if file.len() > 65_535 {
         return refused_sheet(buffer);

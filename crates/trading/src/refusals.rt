@@ -19,16 +19,16 @@ fn fields_fit(b: &BookBytes, t: Trade) -> Result<(), Refusal>
 {
     let codes = codes_of(b);
     if bad_accounts(t) {
-        return Err(Refusal::Account);
+        return Err(Refusal::NoAccount);
     }
     if bad_security(codes, t.security) {
-        return Err(Refusal::Security);
+        return Err(Refusal::NoSecurity);
     }
     if bad_quantity(t) {
-        return Err(Refusal::Quantity);
+        return Err(Refusal::BadQuantity);
     }
     if bad_price(t) {
-        return Err(Refusal::Price);
+        return Err(Refusal::BadPrice);
     }
     if same_account(t) {
         return Err(Refusal::SameAccount);
@@ -44,7 +44,7 @@ pub fn may_enter(b: &BookBytes, t: Trade) -> Result<(), Refusal>
 {
     fields_fit(b, t)?;
     if t.number == 0 || is_used(b, t.number) {
-        return Err(Refusal::NumberUsed);
+        return Err(Refusal::BadNumber);
     }
     if entries_at(b) >= 256 {
         return Err(Refusal::ListFull);
@@ -60,7 +60,7 @@ pub fn may_amend(b: &BookBytes, t: Trade) -> Result<(), Refusal>
 {
     fields_fit(b, t)?;
     if !is_standing(b, t.number) {
-        return Err(Refusal::NoSuchTrade);
+        return Err(Refusal::NoTrade);
     }
     Ok(())
 }
@@ -71,7 +71,7 @@ pub fn may_exclude(b: &BookBytes, number: u16) -> Result<(), Refusal>
     ensures { answered result ≡ answer_sound (book_of b.now) (exclude number) }
 {
     if !is_standing(b, number) {
-        return Err(Refusal::NoSuchTrade);
+        return Err(Refusal::NoTrade);
     }
     Ok(())
 }

@@ -1,7 +1,8 @@
 -- `calls::holdings::may_deposit` meets its contract: the shared tests, then the total. Assumes nothing.
 use Rattle.std.proofs.Common.{sym, ◌∙◌, arith}
 use Rattle.calls.specs.Holdings.{common_passed, deposit_stops, deposit_over, deposit_fine}
-use Rattle.calls.proofs.Refused.{number_some, handed_on}
+use Rattle.laws.specs.RefusalNumbers.{number_some}
+use Rattle.calls.proofs.Refused.{handed_on}
 use Rattle.calls.proofs.holdings.may_deposit.Goals as goal
 
 pub returns-in_err-common_fits : goal.returns-in_err-common_fits

@@ -2,7 +2,8 @@
 use Rattle.std.proofs.Common.{◌∙◌, arith}
 use Rattle.rules.specs.Book.{holding_at, held_by}
 use Rattle.calls.specs.Holdings.{common_passed, withdrawal_stops, withdrawal_over, withdrawal_fine}
-use Rattle.calls.proofs.Refused.{number_some, handed_on}
+use Rattle.laws.specs.RefusalNumbers.{number_some}
+use Rattle.calls.proofs.Refused.{handed_on}
 use Rattle.calls.proofs.holdings.may_withdraw.Goals as goal
 
 pub returns-in_err-common_fits : goal.returns-in_err-common_fits

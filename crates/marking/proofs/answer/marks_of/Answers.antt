@@ -6,7 +6,7 @@ use Rattle.rules.specs.Layout.{book_of}
 use Rattle.rules.specs.Marks.{terms, marked_of}
 use Rattle.laws.specs.SoundParts.{sound_parts}
 use Rattle.laws.specs.Blanks.{records_few}
-use Rattle.marking_prices.specs.Pricing.{number_some}
+use Rattle.laws.specs.RefusalNumbers.{number_some}
 use Rattle.marking_sums.specs.Summing.{sum_priced, lacks_priced}
 use Rattle.marking.specs.SoundMarks.{marks_sound}
 use Rattle.marking.specs.Passing.{all_passed, same_fine}

@@ -1,7 +1,8 @@
 -- `marking_prices::prices::price` meets its contract. Assumes nothing.
 use Rattle.std.proofs.Common.{◌≡◌, sym, ap, ◌∙◌, arith, List, ℕ}
 use Rattle.rules.specs.Prices.{entry_of, price_answer}
-use Rattle.marking_prices.specs.Pricing.{number_some, Asked, asked, part_none, part_intraday, part_closing, spot_none, spot_intraday, spot_closing}
+use Rattle.laws.specs.RefusalNumbers.{number_some}
+use Rattle.marking_prices.specs.Pricing.{Asked, asked, part_none, part_intraday, part_closing, spot_none, spot_intraday, spot_closing}
 use Rattle.marking_prices.proofs.prices.price.Goals as goal
 
 pub returns-in-Err : goal.returns-in-Err
