@@ -18,7 +18,8 @@ pub fn put_counted(buffer: &mut [u8], l: Line, tally: Tally) -> Result<Tally, Re
     Ok(next)
 }
 
-// The same with the part handed back: the bytes that the tally moved on by, from the front of the buffer.
+// The same with the part handed back: the bytes that the tally moved on by, from the front of the buffer. (The number is lent beside it:
+// document 01 has the call hand back the part itself, "an empty part" where the line is refused.)
 pub fn line_part<'a>(buffer: &'a mut [u8], l: Line, tally: Tally, refusal: &mut u8) -> &'a mut [u8]
     ensures { (result.now ≡ line_part buffer.old l tally)
         × (result.ref_ptr ≡ line_spot buffer.entry.ref_ptr)

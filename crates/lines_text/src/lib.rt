@@ -16,7 +16,7 @@ pub(crate) struct Figure {
     pub size: u64,
 }
 
-// A line of any kind: the first letter of its head, and its first `count` figures.
+// A line of any kind: the first letter of its head, and its first `count` figures. (No heap: room for the five of the longest line.)
 #[derive(Clone, Copy)]
 pub(crate) struct Words {
     pub head: u8,

@@ -90,7 +90,8 @@ fn asked<'a>(
     Ok(tables)
 }
 
-// The entry of the table used, as it stands there; an empty part where the question is refused.
+// The entry of the table used, as it stands there; an empty part where the question is refused. (The number is lent beside it:
+// document 01 has the question hand back the part itself, "an empty part where a part is returned".)
 pub fn price<'a>(intraday: &'a [u8], closing: &'a [u8], security: u8, refusal: &mut u8) -> &'a [u8]
     ensures { (result.now ≡ price_part intraday.now closing.now security)
         × (refusal.new ≡ price_answer intraday.now closing.now security)

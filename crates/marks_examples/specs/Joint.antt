@@ -1,6 +1,6 @@
 -- Marks: source documents 000 and 001, 10.10.8B and 10.10A.4. The sources mark overdue and pending positions apart and waive some; the house gives one joint amount
 -- over all records (docs/DECISIONS.md, A2).
-use Rattle.std.specs.Prelude.{◌≡◌, refl, true, List, [], ◌∷◌, ℕ, replicate, pos, neg_ℤ}
+use Rattle.std.specs.Prelude.{◌≡◌, refl, true, List, [], ◌∷◌, ℕ, replicate, pos, neg_ℤ, Ok}
 use Rattle.rules.specs.Book.{with_open}
 use Rattle.rules.specs.Sound.{sound}
 use Rattle.rules.specs.Marks.{Terms, terms, marks_tests, marks_number, marks, due_and_sums}
@@ -64,6 +64,6 @@ margin_terms =
     (0 ∷ 3 ∷ 52 ∷ 80 ∷ 0 ∷ 0 ∷ 85 ∷ 240 ∷ 0 ∷ 0 ∷ 82 ∷ 8 ∷ 0 ∷ 0 ∷ 78 ∷ 32 ∷ 0 ∷ 0 ∷ 11 ∷ 184 ∷ 0 ∷ 0 ∷ 10 ∷ 240 ∷ 0 ∷ 0 ∷ 74 ∷ 56 ∷ replicate 100 0)
     (1_000_000 ∷ 7_800_000 ∷ 1_000_000 ∷ 1_000_000 ∷ []) (0 ∷ 50 ∷ 0 ∷ 0 ∷ [])
 
-v15 : due_and_sums (book_with (0 ∷ 0 ∷ 0 ∷ 0 ∷ 0 ∷ 1 ∷ 1 ∷ [])) margin_terms margined ≡ due 6_827_700_000 (pos 19_432_950_000) (neg_ℤ (pos 3_350_000_000)) (pos 0)
+v15 : Ok (due_and_sums (book_with (0 ∷ 0 ∷ 0 ∷ 0 ∷ 0 ∷ 1 ∷ 1 ∷ [])) margin_terms margined) ≡ due 6_827_700_000 (pos 19_432_950_000) (neg_ℤ (pos 3_350_000_000)) (pos 0)
 unfolding everything margined
 v15 = refl

@@ -27,6 +27,7 @@ fn play_calls(book: &mut BookBytes, file: &[u8], answers: &mut [u8])
     let mut place: usize = 36;
     let mut at: usize = 9;
     let mut refused: Option<Refusal> = None;
+    // Each step goes to where the next record begins, so that this is no `for`.
     while place < n {
         let found = record_at(file, place);
         let answer = apply_again(book, found, place as u64, refused);

@@ -31,6 +31,7 @@ pub fn count_answers(file: &[u8]) -> usize
     let n = file.len();
     let mut count: usize = 1;
     let mut place = next_place(file, 1, record_at(file, 1));
+    // Each step goes to where the next record begins, so that this is no `for`.
     while place < n {
         count += 1;
         place = next_place(file, place, record_at(file, place));

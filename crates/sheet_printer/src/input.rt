@@ -29,6 +29,7 @@ pub fn read_whole<R: Read>(input: &mut R, buf: &mut [u8]) -> Result<usize, Cut>
     ensures whole { IfOk result (λ n. (n ≡ length buf.new) ⊎ IsAtEnd (R.remaining input.new)) }
 {
     let mut done = 0;
+    // Each step goes on by what a read gave, so that this is no `for`.
     while done < buf.len() {
         match read_on(input, buf, done) {
             Ok(0) => break,

@@ -16,6 +16,7 @@ pub fn write_whole<W: Write>(output: &mut W, bytes: &[u8]) -> Result<(), WriteFa
     ensures front { IsFrontWritten (W.contents output.old) (W.contents output.new) bytes.now }
 {
     let mut done = 0;
+    // Each step goes on by what a write took, so that this is no `for`.
     while done < bytes.len() {
         done += write_on(output, &bytes[done..])?;
     }

@@ -48,7 +48,8 @@ pub fn sound_book(b: &[u8]) -> Option<&BookBytes>
     b.as_array().filter(|book| is_sound(book))
 }
 
-// and to be altered there.
+// and to be altered there. (That the book is sound stays a clause of the calls: a struct over the lent bytes, with it as a ghost field, would
+// be taken apart before the first write of each call, for between a call's writes no book is sound.)
 #[tactic(auto, unfolding(rules::specs::Sound::not_sound))]
 pub fn sound_book_mut(b: &mut [u8]) -> Option<&mut BookBytes>
     ensures* writes_back { sem 𝓛 (LendsIf (Array byte 0) (Array byte 0) b.entry result (λ ws. ws) b.old) }
