@@ -12,5 +12,9 @@ pub use creation::create;
 pub use holdings::{deposit, withdraw};
 pub use marked::marks;
 pub use marking_prices::price;
+use rules::Refusal;
 pub use settlement::{roll, run};
 pub use trades::{amend, enter, exclude};
+
+// 1: book not sound. Every call on a book asks this before all else.
+pub(crate) const UNSOUND: Refusal = Refusal::NotSound;

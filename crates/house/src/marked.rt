@@ -3,6 +3,7 @@ ghost use Rattle.std.specs.Prelude.{◌≡◌};
 ghost use Rattle.rules.specs.Marks.{terms, marks, marks_number, marks_figures, number_of_marks, figures_of_marks};
 ghost use Rattle.rules.specs.Refusals.{numbered};
 
+use crate::UNSOUND;
 use marking::marks_of;
 use rules::{Marks, Refusal};
 use soundness::sound_book;
@@ -19,6 +20,6 @@ pub fn marks(
         × (number_of_marks (numbered result) ≡ marks_number book.now account (terms intraday.now closing.now rates.now haircuts.now))
         × (figures_of_marks (numbered result) ≡ marks_figures book.now account (terms intraday.now closing.now rates.now haircuts.now)) }
 {
-    let sound = sound_book(book).ok_or(Refusal::NotSound)?;
+    let sound = sound_book(book).ok_or(UNSOUND)?;
     marks_of(sound, account, intraday, closing, rates, haircuts)
 }

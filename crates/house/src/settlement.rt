@@ -4,6 +4,7 @@ ghost use Rattle.std.specs.Prelude.{◌≡◌, pos};
 ghost use Rattle.rules.specs.Calls.{roll, run, answer_bytes, after_bytes, figure_bytes, run_answer, number_of_run, figure_of_run};
 ghost use Rattle.rules.specs.Refusals.{answered, numbered};
 
+use crate::UNSOUND;
 use rules::Refusal;
 use soundness::sound_book_mut;
 use units::Shares;
@@ -12,7 +13,7 @@ pub fn roll(book: &mut [u8]) -> Result<(), Refusal>
     ensures { (answered result ≡ answer_bytes book.old roll)
         × (book.new ≡ after_bytes book.old roll) }
 {
-    let sound = sound_book_mut(book).ok_or(Refusal::NotSound)?;
+    let sound = sound_book_mut(book).ok_or(UNSOUND)?;
     calls_rolls::roll(sound)
 }
 
@@ -22,6 +23,6 @@ pub fn run(book: &mut [u8], security: u8) -> Result<Shares, Refusal>
         × (number_of_run (numbered result) ≡ answer_bytes book.old (run security))
         × (figure_of_run (numbered result) ≡ pos (figure_bytes book.old (run security))) }
 {
-    let sound = sound_book_mut(book).ok_or(Refusal::NotSound)?;
+    let sound = sound_book_mut(book).ok_or(UNSOUND)?;
     calls::run(sound, security)
 }
