@@ -10,6 +10,7 @@ use rules::Position;
 pub use steps::before_offset;
 
 // The position table with today's nets behind the open positions, and how many records that makes.
+// No heap: the table has room for all, `count` says how much of it is used.
 #[derive(Drop)]
 pub struct Netted {
     pub count: u16,

@@ -27,15 +27,16 @@ pub fn with_nets(b: &BookBytes) -> Result<Netted, Refusal>
 {
     let trades = trades_of(b);
     let n = entries_at(b) as usize;
+    let list = &trades[..n];
     let due = day_at(b) as u32 + 2;
     let mut positions = positions_of(b);
     let mut count = records_at(b);
-    let named = named_accounts(trades, n);
+    let named = named_accounts(list);
     for account in 0..64u8 {
         if !named[account as usize] {
             continue;
         }
-        for net in account_nets(trades, n, due, account) {
+        for net in account_nets(list, due, account) {
             if !is_position(net) {
                 continue;
             }

@@ -1,6 +1,6 @@
 // "Today's net for an account and security", of an account in all securities: one walk over the list adds each of its trades
 // to the net of the trade's security.
-ghost use Rattle.std.specs.Prelude.{◌≡◌, true, [], ◌+◌, ◌≤◌, take};
+ghost use Rattle.std.specs.Prelude.{◌≡◌, true, [], ◌+◌, ◌≤◌, length};
 ghost use Rattle.rules.specs.Words.{all};
 ghost use Rattle.rules.specs.Bounds.{last_day, most_trades};
 ghost use Rattle.rules.specs.Book.{number_of};
@@ -36,13 +36,13 @@ fn no_nets(due: u32, account: u8) -> [Position; 32]
     })
 }
 
-// An account's nets over the first n trades, in one walk.
-pub fn account_nets(trades: [Trade; 256], n: usize, due: u32, account: u8) -> [Position; 32]
-    requires { (n ≤ most_trades) × (due ≤ last_day + 2) × (all in_securities (take n trades) ≡ true) × (all in_limits (take n trades) ≡ true) }
-    ensures { Nets due (take n trades) account result }
+// An account's nets, in one walk.
+pub fn account_nets(trades: &[Trade], due: u32, account: u8) -> [Position; 32]
+    requires { (length trades.now ≤ most_trades) × (due ≤ last_day + 2) × (all in_securities trades.now ≡ true) × (all in_limits trades.now ≡ true) }
+    ensures { Nets due trades.now account result }
 {
     let mut nets = no_nets(due, account);
-    for t in &trades[..n] {
+    for t in trades {
         if has_part(*t, account) {
             let s = t.security as usize;
             nets[s] = with_trade(nets[s], *t, account);

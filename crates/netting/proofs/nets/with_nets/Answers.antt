@@ -1,9 +1,12 @@
 -- `netting::nets::with_nets` meets its contract. The invariant of the loop over accounts: behind the open positions stand the nets of the
 -- accounts before; of the loop over an account's nets: and those of its securities before. Assumes nothing.
-use Rattle.std.proofs.Common.{arith, ℕ, ◌+◌, ◌*◌, ◌≡◌, refl, sym, ap, ap₂, ◌∙◌, List, get_or, take}
+use Rattle.std.proofs.Common.{arith, ℕ, ◌+◌, ◌*◌, ◌≡◌, ◌≤◌, true, refl, sym, ap, ap₂, ◌∙◌, List, get_or, take, length-take}
+use Rattle.rules.specs.Bounds.{most_trades}
 use Rattle.rules.specs.Book.{no_position, list_of}
 use Rattle.rules.specs.Layout.{book_of}
 use Rattle.rules.specs.Nets.{net_of}
+use Rattle.rules.specs.Sound.{sound}
+use Rattle.rules.specs.declared.Book.{Book}
 use Rattle.rules.specs.declared.Trade.{Trade}
 use Rattle.laws.specs.SoundParts.{sound_parts, day_small}
 use Rattle.laws.specs.Listed.{listed_accounts, listed_securities, listed_limits}
@@ -12,6 +15,10 @@ use Rattle.book.specs.Views.{positions_long}
 use Rattle.netting.specs.Filling.{filled_none, filled_same, filled_full, filled_more, filled_account, filled_all, filled_past}
 use Rattle.netting.proofs.nets.with_nets.Goals as goal
 use Rattle.netting.proofs.nets.with_nets.Goals.{After-day_at, In-loop-net}
+
+-- a sound book's list has room in its table
+few : (k : Book) → sound k ≡ true → k.entries ≤ most_trades
+few k ok = entries_few k (sound_parts k ok).trades
 
 -- the book's list
 list : (c : After-day_at) → take c.entries_at-n.result c.trades_of-trades.result ≡ list_of (book_of c.args.b.now)
@@ -29,10 +36,16 @@ net c =
 
 -- ── before the walk ──
 
+pub slice_bounds-trades-end : goal.slice_bounds-trades-end
+slice_bounds-trades-end c = omega (arith, few (book_of c.args.b.now) c.requires, c.entries_at-n.ensures)
+
+pub slice_bounds-list-end : goal.slice_bounds-list-end
+slice_bounds-list-end c = omega (arith, length-take c.entries_at-n.result c.trades_of-trades.result, few (book_of c.args.b.now) c.requires, c.entries_at-n.ensures)
+
 pub named_accounts-named-requires : goal.named_accounts-named-requires
 named_accounts-named-requires c =
     let fit = (sound_parts (book_of c.args.b.now) c.requires).trades in
-    (omega (arith, entries_few (book_of c.args.b.now) fit, c.entries_at-n.ensures), rw (list (goal.at.named_accounts-named-requires c).After-day_at) (listed_accounts (book_of c.args.b.now) fit))
+    rw (list (goal.at.named_accounts-named-requires c).After-day_at) (listed_accounts (book_of c.args.b.now) fit)
 
 pub loop-account-init : goal.loop-account-init
 loop-account-init c =
@@ -50,8 +63,12 @@ pub account_nets-net-items-requires : goal.account_nets-net-items-requires
 account_nets-net-items-requires c =
     let k = book_of c.args.b.now in
     let fit = (sound_parts k c.requires).trades in
-    let l = list (goal.at.account_nets-net-items-requires c).After-day_at in
-    (omega (arith, entries_few k fit, c.entries_at-n.ensures), omega (arith, day_small k c.requires, c.day_at.ensures), rw l (listed_securities k fit), rw l (listed_limits k fit))
+    let l = list (goal.at.account_nets-net-items-requires c).After-day_at in (
+      omega (arith, length-take c.entries_at-n.result c.trades_of-trades.result, few k c.requires, c.entries_at-n.ensures),
+      omega (arith, day_small k c.requires, c.day_at.ensures),
+      rw l (listed_securities k fit),
+      rw l (listed_limits k fit),
+    )
 
 -- ── a net of it: none, no room, or one record more ──
 

@@ -1,5 +1,5 @@
 -- `netting_account::account::account_nets` meets its contract. The loop's invariant: the rows are the nets of the trades before `t`. Assumes nothing.
-use Rattle.std.proofs.Common.{List, get_or, sym, ap, ◌∙◌, arith, rules, length-take}
+use Rattle.std.proofs.Common.{List, get_or, sym, ap, ◌∙◌, rules}
 use Rattle.rules.specs.Book.{no_position}
 use Rattle.rules.specs.declared.Position.{Position}
 use Rattle.netting_account.specs.AccountNets.{limits_here, security_here, nets_same, row_within, nets_more}
@@ -14,7 +14,7 @@ with_trade-requires c =
     let a = c.args in
     let v = c.loop-t in
     let k = security_here a.due _ a.account _ c.loop-t-test.true c.requires.2 in (
-      row_within a.due _ a.account _ c.loop-t-test.true v.nets v.invariant.1 k (omega (arith, length-take a.n a.trades)) c.requires.3,
+      row_within a.due _ a.account _ c.loop-t-test.true v.nets v.invariant.1 k c.requires.0 c.requires.3,
       limits_here a.due _ a.account _ c.loop-t-test.true c.requires.3,
     )
 

@@ -4,4 +4,4 @@ use Rattle.netting_account.specs.AccountNets.{NetsTo}
 use Rattle.netting_account.proofs.account.account_nets.Given as goal
 
 abbrev pub invariant-loop-t : goal.invariant-loop-t
-invariant-loop-t l = (length l.nets ≡ 32) × NetsTo l.due l.t-items l.account l.nets l.t-index
+invariant-loop-t l = (length l.nets ≡ 32) × NetsTo l.due l.trades l.account l.nets l.t-index

@@ -4,4 +4,4 @@ use Rattle.netting_account.specs.Named.{NamedTo}
 use Rattle.netting_account.proofs.named.named_accounts.Given as goal
 
 abbrev pub invariant-loop-t : goal.invariant-loop-t
-invariant-loop-t l = (length l.named ≡ 64) × NamedTo l.t-items l.named l.t-index
+invariant-loop-t l = (length l.named ≡ 64) × NamedTo l.trades l.named l.t-index
