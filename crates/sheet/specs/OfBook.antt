@@ -1,7 +1,7 @@
 -- The book that a file leaves, read back from its bytes: so the sheet can be written from what the file's call leaves, the bytes of the answers and
 -- those of the book.
-use Rattle.std.specs.Prelude.{◌≡◌, Bool, true, false, cond, List, ◌++◌, ℕ, ◌≤◌, eqb, length, Option, Some, None}
-use Rattle.std.proofs.Math.Path.{refl, ap, subst}
+use Rattle.std.specs.Prelude.{◌≡◌, false, cond, List, ◌++◌, ℕ, ◌≤◌, eqb, length, Option, Some, None}
+use Rattle.std.proofs.Math.Path.{refl, ap}
 use Rattle.std.proofs.Common.{sym, ◌∙◌}
 use Rattle.fields.specs.Field.{field, Bytes}
 use Rattle.rules.specs.Bounds.{most_records}
@@ -11,7 +11,6 @@ use Rattle.rules.specs.Records.{too_long}
 use Rattle.rules.specs.CallFile.{file_of, answers_of, bytes_left}
 use Rattle.rules.specs.Sheet.{sheet_of}
 use Rattle.rules.specs.declared.Book.{Book}
-use Rattle.laws.specs.Cases.{true_false}
 use Rattle.laws.specs.SoundRun.{sound_runnable}
 use Rattle.sheet_laws.specs.BookLeft.{is_there, file_left}
 use Rattle.sheet.specs.Whole.{sheet_text, Printable}

@@ -1,5 +1,5 @@
 -- The sheet of the answers in some bytes and a book, and what is asked of them.
-use Rattle.std.specs.Prelude.{◌≡◌, refl, Bool, true, false, cond, List, [], ◌∷◌, ◌++◌, map, ℕ, ◌*◌, ◌≤◌, length, take, drop, Option, Some, None}
+use Rattle.std.specs.Prelude.{◌≡◌, refl, Bool, true, List, [], ◌∷◌, ◌++◌, map, ℕ, ◌*◌, ◌≤◌, length, take, drop, Option, Some, None}
 use Rattle.std.proofs.Common.{sym, ap, ap₂, ◌∙◌, append_assoc, zero-add, arith, length-append}
 use Rattle.fields.specs.Field.{stored}
 use Rattle.fields.specs.FieldLaws.{stored_eq}

@@ -17,11 +17,9 @@ fn put_book(buffer: &mut [u8], write: bool, t: Tally, k: Book) -> Tally
     ensures { Wrote write buffer.old t (book_lines (Some k)) buffer.new result }
 {
     let day = put_one(buffer, write, t, Line::Day(k.day));
-    let positions = k.positions;
     let records = k.records as usize;
-    let charges = k.charges;
-    let open = put_open(buffer, write, day, positions, records);
-    put_charges(buffer, write, open, charges)
+    let open = put_open(buffer, write, day, &k.positions[..records]);
+    put_charges(buffer, write, open, &k.charges)
 }
 
 // The lines of the book, if there is one.

@@ -1,7 +1,6 @@
 -- `sheet::answers::put_answers` meets its contract: the lines from record i on are left. Assumes nothing.
 use mathlib.Core.Path.{◌≡◌}
 use mathlib.Core.Bool.{true}
-use Prim.Native.Nat.{◌-◌, ◌≤◌}
 use lib.ListN.{length}
 use Rattle.rules.specs.Words.{all}
 use Rattle.rules.specs.Sheet.{answer_lines}
