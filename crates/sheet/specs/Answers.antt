@@ -1,6 +1,6 @@
 -- The answers of a file, read back from their bytes, 9 each: number 1, figure 8. And their lines as a loop over the bytes meets them.
-use Rattle.std.specs.Prelude.{◌≡◌, refl, Bool, true, not, ◌||◌, List, [], ◌∷◌, ◌++◌, map, ℕ, suc, ◌+◌, ◌*◌, ◌-◌, ◌^◌, ◌≤◌, ◌<◌, eqb, ltb, length}
-use Rattle.std.proofs.Common.{sym, ap, ap₂, ◌∙◌, append_assoc, arith, add-one, length-append, eq-eqb, ne_eqb, eqb-true, lt-ltb, ltb-true}
+use Rattle.std.specs.Prelude.{◌≡◌, refl, Bool, true, not, ◌||◌, List, [], ◌∷◌, ◌++◌, map, ℕ, suc, ◌+◌, ◌*◌, ◌-◌, ◌/◌, ◌^◌, ◌≤◌, ◌<◌, eqb, ltb, length}
+use Rattle.std.proofs.Common.{sym, ap, ap₂, ◌∙◌, append_assoc, append-nil, arith, add-one, length-append, eq-eqb, ne_eqb, eqb-true, lt-ltb, ltb-true}
 use Rattle.std.proofs.lemmas.List.{length-map}
 use Rattle.fields.specs.Field.{field, digits}
 use Rattle.fields.specs.FieldLaws.{length_digits, field_digits}
@@ -23,12 +23,12 @@ answer number figure = record { number = number; figure = figure }
 abbrev pub code : Answer → List ℕ
 code a = digits 1 a.number ++ digits 8 a.figure
 
--- entry i of the bytes, and the first so many entries
+-- entry i of the bytes, and all entries
 abbrev pub answerAt : List ℕ → ℕ → Answer
 answerAt bs i = answer (field 1 (i * 9) bs) (field 8 (i * 9 + 1) bs)
 
-unfoldable pub answersIn : ℕ → List ℕ → List Answer
-answersIn count bs = map (answerAt bs) (from 0 count)
+unfoldable pub answersIn : List ℕ → List Answer
+answersIn bs = map (answerAt bs) (from 0 (length bs / 9))
 
 -- the place of a 19 has 32 bits
 unfoldable pub placeFits : Answer → Bool
@@ -67,37 +67,44 @@ read_all p q i l e (fit_more {a = a} {rest = rest} h r) =
     ap (λ (m : List ℕ). map (answerAt m) (from (suc i) (length rest))) move ∙ read_all (p ++ code a) q (suc i) rest long r in
     ap₂ (λ (x : Answer) (y : List Answer). x ∷ y) one two
 
-pub answers-back : (l : List Answer) (rest : List ℕ) → AllFit l → answersIn (length l) (each code l ++ rest) ≡ l
+pub length_codes : (l : List Answer) → length (each code l) ≡ length l * 9
+unfolding each
+length_codes [] = refl
+length_codes (a ∷ l) = length-append (code a) (each code l) ∙ omega (arith, length-code a, length_codes l)
+
+pub answers-back : (l : List Answer) → AllFit l → answersIn (each code l) ≡ l
 unfolding answersIn
-answers-back l rest h = read_all [] rest 0 l refl h
+answers-back l h =
+    let entries : length (each code l) / 9 ≡ length l = omega (arith, length_codes l) in
+    ap₂ (λ (n : ℕ) (bs : List ℕ). map (answerAt bs) (from 0 n)) entries (sym (append-nil (each code l))) ∙ read_all [] [] 0 l refl h
 
 -- ── the loop: what is left from entry i on ──
 
-abbrev pub answers_left : ℕ → List ℕ → ℕ → List Answer
-answers_left count bs i = map (answerAt bs) (from i (count - i))
+abbrev pub answers_left : List ℕ → ℕ → List Answer
+answers_left bs i = map (answerAt bs) (from i (length bs / 9 - i))
 
-abbrev pub linesLeft : ℕ → List ℕ → ℕ → List Line
-linesLeft count bs i = answer_lines i (answers_left count bs i)
+abbrev pub linesLeft : List ℕ → ℕ → List Line
+linesLeft bs i = answer_lines i (answers_left bs i)
 
-pub left-first : (count : ℕ) (bs : List ℕ) → answersIn count bs ≡ answers_left count bs 0
+pub left-first : (bs : List ℕ) → answersIn bs ≡ answers_left bs 0
 unfolding answersIn
-left-first count bs = ap (λ (n : ℕ). map (answerAt bs) (from 0 n)) (omega arith)
+left-first bs = ap (λ (n : ℕ). map (answerAt bs) (from 0 n)) (omega arith)
 
-answers-more : (count : ℕ) (bs : List ℕ) (i : ℕ) → i < count → answers_left count bs i ≡ answerAt bs i ∷ answers_left count bs (i + 1)
+answers-more : (bs : List ℕ) (i : ℕ) → i < length bs / 9 → answers_left bs i ≡ answerAt bs i ∷ answers_left bs (i + 1)
 unfolding from
-answers-more count bs i h = let e : count - i ≡ suc (count - (i + 1)) = omega arith in rw (e, add-one i)
+answers-more bs i h = let e : length bs / 9 - i ≡ suc (length bs / 9 - (i + 1)) = omega arith in rw (e, add-one i)
 
-pub left-more : (count : ℕ) (bs : List ℕ) (i : ℕ) (a : Answer) → i < count → a ≡ answerAt bs i
-    → linesLeft count bs i ≡ answer_line i a ++ linesLeft count bs (i + 1)
+pub left-more : (bs : List ℕ) (i : ℕ) (a : Answer) → i < length bs / 9 → a ≡ answerAt bs i
+    → linesLeft bs i ≡ answer_line i a ++ linesLeft bs (i + 1)
 unfolding answer_lines
-left-more count bs i a h e =
-    ap (answer_lines i) (answers-more count bs i h)
-    ∙ ap (λ (x : Answer). answer_line i x ++ answer_lines (suc i) (answers_left count bs (i + 1))) (sym e)
-    ∙ ap (λ (n : ℕ). answer_line i a ++ answer_lines n (answers_left count bs (i + 1))) (sym (add-one i))
+left-more bs i a h e =
+    ap (answer_lines i) (answers-more bs i h)
+    ∙ ap (λ (x : Answer). answer_line i x ++ answer_lines (suc i) (answers_left bs (i + 1))) (sym e)
+    ∙ ap (λ (n : ℕ). answer_line i a ++ answer_lines n (answers_left bs (i + 1))) (sym (add-one i))
 
-pub left-done : (count : ℕ) (bs : List ℕ) (i : ℕ) → count ≤ i → linesLeft count bs i ≡ []
+pub left-done : (bs : List ℕ) (i : ℕ) → length bs / 9 ≤ i → linesLeft bs i ≡ []
 unfolding from answer_lines
-left-done count bs i h = let e : count - i ≡ 0 = omega arith in ap (λ (n : ℕ). answer_lines i (map (answerAt bs) (from i n))) e
+left-done bs i h = let e : length bs / 9 - i ≡ 0 = omega arith in ap (λ (n : ℕ). answer_lines i (map (answerAt bs) (from i n))) e
 
 -- the places fit
 pub places-fit : (l : List Answer) → AllFit l → all placeFits l ≡ true
@@ -110,10 +117,10 @@ places-fit l (fit_more {a = a} {rest = rest} h r) =
     (λ e. rw e) in
     and_hold here (places-fit rest r)
 
-pub fits_more : (count : ℕ) (bs : List ℕ) (i : ℕ) → i < count → all placeFits (answers_left count bs i) ≡ true
-    → (placeFits (answerAt bs i) ≡ true) × (all placeFits (answers_left count bs (i + 1)) ≡ true)
-fits_more count bs i h e =
-    all_cons placeFits (answerAt bs i) (answers_left count bs (i + 1)) (ap (all placeFits) (sym (answers-more count bs i h)) ∙ e)
+pub fits_more : (bs : List ℕ) (i : ℕ) → i < length bs / 9 → all placeFits (answers_left bs i) ≡ true
+    → (placeFits (answerAt bs i) ≡ true) × (all placeFits (answers_left bs (i + 1)) ≡ true)
+fits_more bs i h e =
+    all_cons placeFits (answerAt bs i) (answers_left bs (i + 1)) (ap (all placeFits) (sym (answers-more bs i h)) ∙ e)
 
 pub place-fits : (number figure : ℕ) → placeFits (answer number figure) ≡ true → number ≡ 19 → figure < 2 ^ 32
 unfolding placeFits
@@ -136,9 +143,9 @@ line-refusal i number figure z n = cond_no _ _ (ne_eqb number 0 z) ∙ cond_no _
 
 -- ── they are few ──
 
-length-answers : (count : ℕ) (bs : List ℕ) → length (answersIn count bs) ≡ count
+length-answers : (bs : List ℕ) → length (answersIn bs) ≡ length bs / 9
 unfolding answersIn
-length-answers count bs = length-map (from 0 count) (answerAt bs) ∙ from_length 0 count
+length-answers bs = length-map (from 0 (length bs / 9)) (answerAt bs) ∙ from_length 0 (length bs / 9)
 
-pub few-lines : (count : ℕ) (bs : List ℕ) → length (answer_lines 0 (answersIn count bs)) ≤ count
-few-lines count bs = omega (arith, few_answers 0 (answersIn count bs), length-answers count bs)
+pub few-lines : (bs : List ℕ) → length (answer_lines 0 (answersIn bs)) ≤ length bs / 9
+few-lines bs = omega (arith, few_answers 0 (answersIn bs), length-answers bs)

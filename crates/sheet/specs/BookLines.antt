@@ -1,7 +1,7 @@
 -- The lines of the book as loops over its tables meet them: the open positions one by one, the charges at their 256 places.
-use Rattle.std.specs.Prelude.{◌≡◌, cond, pos, nat_abs, length, get_or, take, drop}
+use Rattle.std.specs.Prelude.{◌≡◌, cond, pos, nat_abs, length, get_or, drop}
 use Rattle.std.proofs.Math.Path.{refl, ap, ap₂}
-use Rattle.std.proofs.Common.{sym, ◌∙◌, zero-add, suc-add, add-one, drop-cons, get_or-take, length-take-le, eq-eqb, ne_eqb}
+use Rattle.std.proofs.Common.{sym, ◌∙◌, zero-add, suc-add, add-one, drop-cons, eq-eqb, ne_eqb}
 use mathlib.Core.List.{List, [], ◌∷◌, ◌++◌, map, append_assoc}
 use Prim.Native.Nat.{ℕ, zero, suc, ◌+◌, ◌*◌, ◌-◌, ◌/◌, ◌%◌, ◌≤◌, ◌<◌}
 use native.Mathlib.Omega.{arith}
@@ -25,20 +25,18 @@ pub open_is : (p : Position) (account security : ℕ) → account ≡ account_of
 unfolding open_line
 open_is p account security a s = ap₂ (λ (x y : ℕ). Open p.number x y p.quantity p.money) a s
 
-abbrev pub open_left : List Position → ℕ → ℕ → List Line
-open_left ps n i = map open_line (drop i (take n ps))
+abbrev pub open_left : List Position → ℕ → List Line
+open_left ps i = map open_line (drop i ps)
 
-pub open_more : (ps : List Position) (n i : ℕ) (l : Line) → n ≤ length ps → i < n → l ≡ open_line (get_or ps i no_position)
-    → open_left ps n i ≡ (l ∷ []) ++ open_left ps n (i + 1)
-open_more ps n i l h k e =
-    ap (map open_line) (drop-cons (take n ps) i no_position (omega (arith, length-take-le n ps h)))
-    ∙ ap₂ (λ (p : Position) (m : ℕ). open_line p ∷ open_left ps n m) (get_or-take n ps i no_position k) (sym (add-one i))
-    ∙ ap (λ (x : Line). x ∷ open_left ps n (i + 1)) (sym e)
+pub open_more : (ps : List Position) (i : ℕ) (l : Line) → i < length ps → l ≡ open_line (get_or ps i no_position)
+    → open_left ps i ≡ (l ∷ []) ++ open_left ps (i + 1)
+open_more ps i l h e =
+    ap (map open_line) (drop-cons ps i no_position h)
+    ∙ ap (λ (m : ℕ). open_line (get_or ps i no_position) ∷ open_left ps m) (sym (add-one i))
+    ∙ ap (λ (x : Line). x ∷ open_left ps (i + 1)) (sym e)
 
-pub open_done : (ps : List Position) (n i : ℕ) → n ≤ length ps → i ≡ n → open_left ps n i ≡ []
-open_done ps n i h e =
-    ap (λ (m : ℕ). map open_line (drop m (take n ps))) (e ∙ sym (length-take-le n ps h))
-    ∙ ap (map open_line) (drop-length (take n ps))
+pub open_done : (ps : List Position) (i : ℕ) → i ≡ length ps → open_left ps i ≡ []
+open_done ps i e = ap (λ (m : ℕ). open_left ps m) e ∙ ap (map open_line) (drop-length ps)
 
 -- ── charges: what is left from a place on ──
 

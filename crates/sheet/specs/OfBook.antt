@@ -1,7 +1,7 @@
 -- The book that a file leaves, read back from its bytes: so the sheet can be written from what the file's call leaves, the bytes of the answers and
 -- those of the book.
-use Rattle.std.specs.Prelude.{◌≡◌, Bool, true, false, cond, List, ◌++◌, ℕ, ◌≤◌, eqb, length, Option, Some, None}
-use Rattle.std.proofs.Math.Path.{refl, ap, subst}
+use Rattle.std.specs.Prelude.{◌≡◌, false, cond, List, ◌++◌, ℕ, ◌≤◌, eqb, Option, Some, None}
+use Rattle.std.proofs.Math.Path.{refl, ap}
 use Rattle.std.proofs.Common.{sym, ◌∙◌}
 use Rattle.fields.specs.Field.{field, Bytes}
 use Rattle.rules.specs.Bounds.{most_records}
@@ -11,7 +11,6 @@ use Rattle.rules.specs.Records.{too_long}
 use Rattle.rules.specs.CallFile.{file_of, answers_of, bytes_left}
 use Rattle.rules.specs.Sheet.{sheet_of}
 use Rattle.rules.specs.declared.Book.{Book}
-use Rattle.laws.specs.Cases.{true_false}
 use Rattle.laws.specs.SoundRun.{sound_runnable}
 use Rattle.sheet_laws.specs.BookLeft.{is_there, file_left}
 use Rattle.sheet.specs.Whole.{sheet_text, Printable}
@@ -29,7 +28,7 @@ unfolding bytes_left is_there
 left_bytes old room None = refl
 left_bytes old room (Some m) = refl
 
-module _ (file rest old : List ℕ) (count : ℕ) (bytes : Bytes file) (short : too_long file ≡ false) (n : count ≡ length (file_of file).answers) where
+module _ (file rest old : List ℕ) (bytes : Bytes file) (short : too_long file ≡ false) where
   abbrev left : Option Book
   left = book_in (answers_of file ++ rest) (bytes_left old (file_of file).book)
 
@@ -43,8 +42,8 @@ module _ (file rest old : List ℕ) (count : ℕ) (bytes : Bytes file) (short : 
   pub there : left ≡ (file_of file).book
   there = book_is (eqb (field 1 0 (answers_of file ++ rest)) 0) (book_of (bytes_left old (file_of file).book)) (file_of file).book (exists_is file rest) same_book
 
-  pub bytes_printable : Printable count (answers_of file ++ rest) left
-  bytes_printable = printable_file file rest count left short n bytes there (λ m e. few_records m (sym there ∙ e))
+  pub bytes_printable : Printable (answers_of file) left
+  bytes_printable = printable_file file left short bytes there (λ m e. few_records m (sym there ∙ e))
 
-  pub bytes_sheet : sheet_text count (answers_of file ++ rest) left ≡ sheet_of file
-  bytes_sheet = sheet_is_file file rest count left short n there
+  pub bytes_sheet : sheet_text (answers_of file) left ≡ sheet_of file
+  bytes_sheet = sheet_is_file file left short there

@@ -1,7 +1,7 @@
 -- The sheet of the answers that a file writes is the sheet of the file: the answers are read back from their bytes, and the first of them says
 -- whether a book exists.
 use Rattle.std.specs.Prelude.{◌≡◌, refl, Bool, true, false, cond, ◌&&◌, ◌||◌, ℕ, suc, ◌*◌, ◌≤◌, eqb, length, drop, Option, Some, None}
-use Rattle.std.proofs.Common.{sym, ◌∙◌, arith, length-append}
+use Rattle.std.proofs.Common.{sym, ◌∙◌, arith}
 use Rattle.std.proofs.Math.Path.{ap, ap₂}
 use mathlib.Core.List.{List, [], ◌∷◌, ◌++◌}
 use Rattle.fields.specs.Field.{Bytes, field, digits}
@@ -19,7 +19,7 @@ use Rattle.sheet_laws.specs.AnswersFew.{file_few}
 use Rattle.sheet_laws.specs.AnswersFit.{file_fits}
 use Rattle.sheet_laws.specs.BookLeft.{is_there}
 use Rattle.sheet_laws.proofs.Bounded.{sheet_bytes_lem}
-use Rattle.sheet.specs.Answers.{code, length-code, answersIn, placeFits, places-fit, answers-back}
+use Rattle.sheet.specs.Answers.{code, length_codes, answersIn, placeFits, places-fit, answers-back}
 use Rattle.sheet.specs.Whole.{lines_above, sheet_lines, sheet_text, Printable}
 
 -- ── the bytes of the answers are read back ──
@@ -28,19 +28,12 @@ bytes_are : (file : List ℕ) → answers_of file ≡ each code (file_of file).a
 unfolding answers_of
 bytes_are file = refl
 
-length_codes : (l : List Answer) → length (each code l) ≡ length l * 9
-unfolding each
-length_codes [] = refl
-length_codes (a ∷ l) = length-append (code a) (each code l) ∙ omega (arith, length-code a, length_codes l)
-
 -- how many answers stand in their bytes
 pub length_bytes : (file : List ℕ) → length (answers_of file) ≡ length (file_of file).answers * 9
 length_bytes file = ap length (bytes_are file) ∙ length_codes (file_of file).answers
 
-pub answers_are : (file rest : List ℕ) (count : ℕ) → too_long file ≡ false → count ≡ length (file_of file).answers
-    → answersIn count (answers_of file ++ rest) ≡ (file_of file).answers
-answers_are file rest count e n =
-    ap₂ (λ (m : ℕ) (bs : List ℕ). answersIn m (bs ++ rest)) n (bytes_are file) ∙ answers-back (file_of file).answers rest (file_fits file e)
+pub answers_are : (file : List ℕ) → too_long file ≡ false → answersIn (answers_of file) ≡ (file_of file).answers
+answers_are file e = ap answersIn (bytes_are file) ∙ answers-back (file_of file).answers (file_fits file e)
 
 -- ── whether a book exists: the first answer is the create's ──
 
@@ -115,19 +108,18 @@ book_is exists k (Some m) e h = cond_yes (Some k) None e ∙ ap Some (h m refl)
 
 -- ── the sheet of the file ──
 
-module _ (file rest : List ℕ) (count : ℕ) (book : Option Book) (short : too_long file ≡ false) (n : count ≡ length (file_of file).answers) where
-  pub sheet_is_file : book ≡ (file_of file).book → sheet_text count (answers_of file ++ rest) book ≡ sheet_of file
+module _ (file : List ℕ) (book : Option Book) (short : too_long file ≡ false) where
+  pub sheet_is_file : book ≡ (file_of file).book → sheet_text (answers_of file) book ≡ sheet_of file
   unfolding sheet_text sheet_lines lines_above sheet_of lines_of
   sheet_is_file e =
-      ap₂ (λ (l : List Answer) (b : Option Book). each text_of (ended (answer_lines 0 l ++ book_lines b))) (answers_are file rest count short n) e
+      ap₂ (λ (l : List Answer) (b : Option Book). each text_of (ended (answer_lines 0 l ++ book_lines b))) (answers_are file short) e
       ∙ ap (each text_of) (sym (cond_no refused_sheet (lines_of (file_of file)) short))
 
-  pub printable_file : Bytes file → book ≡ (file_of file).book → ((k : Book) → book ≡ Some k → k.records ≤ most_records) → Printable count (answers_of file ++ rest) book
+  pub printable_file : Bytes file → book ≡ (file_of file).book → ((k : Book) → book ≡ Some k → k.records ≤ most_records) → Printable (answers_of file) book
   printable_file bytes e few =
       record {
-        within = omega (arith, length-append (answers_of file) rest, length_bytes file);
-        few = omega (arith, file_few file short);
-        places = ap (all placeFits) (answers_are file rest count short n) ∙ places-fit (file_of file).answers (file_fits file short);
+        few = omega (arith, length_bytes file, file_few file short);
+        places = ap (all placeFits) (answers_are file short) ∙ places-fit (file_of file).answers (file_fits file short);
         records = few;
         short = omega (arith, ap length (sheet_is_file e), sheet_bytes_lem file bytes);
       }

@@ -1,5 +1,5 @@
 // "For each refused call, R record index from 0, refusal; for 19, X place": the answers stand in 9 bytes each, number 1, figure 8.
-ghost use Rattle.std.specs.Prelude.{◌≡◌, true, ◌*◌, ◌≤◌, ◌<◌, ◌^◌, length};
+ghost use Rattle.std.specs.Prelude.{◌≡◌, true, ◌/◌, ◌<◌, ◌^◌, length};
 ghost use Rattle.rules.specs.Words.{all};
 ghost use Rattle.rules.specs.Sheet.{answer_line, answer_lines};
 ghost use Rattle.sheet.specs.Written.{Ready, Wrote};
@@ -30,20 +30,14 @@ fn put_answer(
     put_one(buffer, write, t, Line::Refusal(index, number))
 }
 
-// The lines of the first `count` answers.
-pub(crate) fn put_answers(
-    buffer: &mut [u8],
-    write: bool,
-    t: Tally,
-    answers: &[u8],
-    count: usize,
-) -> Tally
-    requires { (count * 9 ≤ length answers.now) × (count < 2 ^ 32) × (all placeFits (answersIn count answers.now) ≡ true)
-        × Ready write (length buffer.old) t (answer_lines 0 (answersIn count answers.now)) }
-    ensures { Wrote write buffer.old t (answer_lines 0 (answersIn count answers.now)) buffer.new result }
+// The lines of all answers.
+pub(crate) fn put_answers(buffer: &mut [u8], write: bool, t: Tally, answers: &[u8]) -> Tally
+    requires { (length answers.now / 9 < 2 ^ 32) × (all placeFits (answersIn answers.now) ≡ true)
+        × Ready write (length buffer.old) t (answer_lines 0 (answersIn answers.now)) }
+    ensures { Wrote write buffer.old t (answer_lines 0 (answersIn answers.now)) buffer.new result }
 {
     let mut tally = t;
-    for i in 0..count {
+    for i in 0..answers.len() / 9 {
         let number = get(answers, i * 9, 1) as u8;
         let figure = get(answers, i * 9 + 1, 8);
         tally = put_answer(buffer, write, tally, i as u32, number, figure);

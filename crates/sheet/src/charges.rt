@@ -27,9 +27,9 @@ fn put_charge(
 }
 
 // The lines of all charges, from one place to the next.
-pub(crate) fn put_charges(buffer: &mut [u8], write: bool, t: Tally, charges: [Mils; 256]) -> Tally
-    requires { Ready write (length buffer.old) t (entry_lines charges) }
-    ensures { Wrote write buffer.old t (entry_lines charges) buffer.new result }
+pub(crate) fn put_charges(buffer: &mut [u8], write: bool, t: Tally, charges: &[Mils; 256]) -> Tally
+    requires { Ready write (length buffer.old) t (entry_lines charges.now) }
+    ensures { Wrote write buffer.old t (entry_lines charges.now) buffer.new result }
 {
     let mut tally = t;
     for i in 0..256 {

@@ -1,6 +1,5 @@
 // "P number account security quantity money", by number: the position table is in the order of its numbers.
-ghost use Rattle.std.specs.Prelude.{◌≡◌, map, ◌≤◌, length, take};
-ghost use Rattle.rules.specs.Bounds.{most_records};
+ghost use Rattle.std.specs.Prelude.{◌≡◌, map, length};
 ghost use Rattle.rules.specs.Sheet.{open_line};
 ghost use Rattle.sheet.specs.Written.{Ready, Wrote};
 
@@ -20,20 +19,14 @@ fn open_line(p: Position) -> Line
     Line::Open(number, account, security, quantity, money)
 }
 
-// The lines of the first `records` positions.
-pub(crate) fn put_open(
-    buffer: &mut [u8],
-    write: bool,
-    t: Tally,
-    positions: [Position; 1024],
-    records: usize,
-) -> Tally
-    requires { (records ≤ most_records) × Ready write (length buffer.old) t (map open_line (take records positions)) }
-    ensures { Wrote write buffer.old t (map open_line (take records positions)) buffer.new result }
+// The lines of all positions.
+pub(crate) fn put_open(buffer: &mut [u8], write: bool, t: Tally, positions: &[Position]) -> Tally
+    requires { Ready write (length buffer.old) t (map open_line positions.now) }
+    ensures { Wrote write buffer.old t (map open_line positions.now) buffer.new result }
 {
     let mut tally = t;
-    for i in 0..records {
-        tally = put_one(buffer, write, tally, open_line(positions[i]));
+    for p in positions {
+        tally = put_one(buffer, write, tally, open_line(*p));
     }
     tally
 }

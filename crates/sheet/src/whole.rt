@@ -17,11 +17,9 @@ fn put_book(buffer: &mut [u8], write: bool, t: Tally, k: Book) -> Tally
     ensures { Wrote write buffer.old t (book_lines (Some k)) buffer.new result }
 {
     let day = put_one(buffer, write, t, Line::Day(k.day));
-    let positions = k.positions;
     let records = k.records as usize;
-    let charges = k.charges;
-    let open = put_open(buffer, write, day, positions, records);
-    put_charges(buffer, write, open, charges)
+    let open = put_open(buffer, write, day, &k.positions[..records]);
+    put_charges(buffer, write, open, &k.charges)
 }
 
 // The lines of the book, if there is one.
@@ -36,38 +34,32 @@ fn put_existing(buffer: &mut [u8], write: bool, t: Tally, book: Option<Book>) ->
 }
 
 // All lines: written, or only measured.
-fn put_lines(
-    buffer: &mut [u8],
-    write: bool,
-    answers: &[u8],
-    count: usize,
-    book: Option<Book>,
-) -> Tally
-    requires { Printable count answers.now book × (write ≡ true → length (sheet_text count answers.now book) ≤ length buffer.old) }
-    ensures { Wrote write buffer.old start (sheet_lines count answers.now book) buffer.new result }
+fn put_lines(buffer: &mut [u8], write: bool, answers: &[u8], book: Option<Book>) -> Tally
+    requires { Printable answers.now book × (write ≡ true → length (sheet_text answers.now book) ≤ length buffer.old) }
+    ensures { Wrote write buffer.old start (sheet_lines answers.now book) buffer.new result }
 {
     let begin = Tally { lines: 0, bytes: 0 };
-    let answered = put_answers(buffer, write, begin, answers, count);
+    let answered = put_answers(buffer, write, begin, answers);
     let above = put_existing(buffer, write, answered, book);
     put_one(buffer, write, above, Line::End(above.lines))
 }
 
 // How long the sheet is.
-pub fn sheet_width(answers: &[u8], count: usize, book: Option<Book>) -> usize
-    requires { Printable count answers.now book }
-    ensures { result ≡ length (sheet_text count answers.now book) }
+pub fn sheet_width(answers: &[u8], book: Option<Book>) -> usize
+    requires { Printable answers.now book }
+    ensures { result ≡ length (sheet_text answers.now book) }
 {
     let mut none: [u8; 1] = [0];
-    let tally = put_lines(&mut none, false, answers, count, book);
+    let tally = put_lines(&mut none, false, answers, book);
     tally.bytes as usize
 }
 
 // The sheet in front of the buffer, where it fits; bytes beyond it stay.
-pub fn put_sheet(answers: &[u8], count: usize, book: Option<Book>, buffer: &mut [u8]) -> usize
-    requires { Printable count answers.now book × (length (sheet_text count answers.now book) ≤ length buffer.old) }
-    ensures { (result ≡ length (sheet_text count answers.now book))
-        × (buffer.new ≡ sheet_text count answers.now book ++ drop (length (sheet_text count answers.now book)) buffer.old) }
+pub fn put_sheet(answers: &[u8], book: Option<Book>, buffer: &mut [u8]) -> usize
+    requires { Printable answers.now book × (length (sheet_text answers.now book) ≤ length buffer.old) }
+    ensures { (result ≡ length (sheet_text answers.now book))
+        × (buffer.new ≡ sheet_text answers.now book ++ drop (length (sheet_text answers.now book)) buffer.old) }
 {
-    let tally = put_lines(buffer, true, answers, count, book);
+    let tally = put_lines(buffer, true, answers, book);
     tally.bytes as usize
 }

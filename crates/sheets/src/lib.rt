@@ -51,12 +51,13 @@ fn put_played(
     requires { (length file.now ≤ most_file) × Room file.now room.now answers.now }
     ensures { Written file.now book.old buffer.old (answered result) (value_or 0 result) book.new buffer.new }
 {
-    let count = count_answers(file);
     let left = book_in(room, answers);
-    if buffer.len() < sheet_width(answers, count, left) {
+    // Each answer stands in 9 bytes; what is behind them is room that the file did not need.
+    let answers = &answers[..9 * count_answers(file)];
+    if buffer.len() < sheet_width(answers, left) {
         return Err(Refusal::WrongLength);
     }
-    let size = put_sheet(answers, count, left, buffer);
+    let size = put_sheet(answers, left, buffer);
     if let Some(k) = left {
         store(k, book);
     }

@@ -9,16 +9,16 @@ use Rattle.sheet.proofs.answers.put_answers.Goals as goal
 
 pub loop-i-init : goal.loop-i-init
 loop-i-init c =
-    let first = left-first c.args.count c.args.answers.now in
-    (refl, ap (all placeFits) (sym first) ∙ c.requires.2, going_start _ _ _ _ _ _ c.requires.3 (ap (answer_lines 0) first))
+    let first = left-first c.args.answers.now in
+    (refl, ap (all placeFits) (sym first) ∙ c.requires.1, going_start _ _ _ _ _ _ c.requires.2 (ap (answer_lines 0) first))
 
 pub put_answer-tally-requires : goal.put_answer-tally-requires
 put_answer-tally-requires c =
     let l = c.loop-i in
     let h = c.loop-i-test.true in
     let is = ap₂ answer c.get-number.ensures.0 c.get-figure.ensures.0 in
-    let now = fits_more c.args.count c.args.answers.now l.i h l.invariant.1 in
-    (going_ready _ _ _ _ _ _ _ _ _ _ _ l.invariant.0 c.requires.3 l.invariant.2 (left-more _ _ _ _ h is), ap placeFits is ∙ now.0)
+    let now = fits_more c.args.answers.now l.i h l.invariant.1 in
+    (going_ready _ _ _ _ _ _ _ _ _ _ _ l.invariant.0 c.requires.2 l.invariant.2 (left-more _ _ _ h is), ap placeFits is ∙ now.0)
 
 pub loop-i-preserved : goal.loop-i-preserved
 loop-i-preserved c =
@@ -27,11 +27,11 @@ loop-i-preserved c =
     let is = ap₂ answer c.get-number.ensures.0 c.get-figure.ensures.0 in
     let put = c.put_answer-tally in (
       put.auto.buffer ∙ l.invariant.0,
-      (fits_more c.args.count c.args.answers.now l.i h l.invariant.1).1,
-      going_next _ _ _ _ _ _ _ _ _ _ _ l.invariant.2 (left-more _ _ _ _ h is) put.ensures,
+      (fits_more c.args.answers.now l.i h l.invariant.1).1,
+      going_next _ _ _ _ _ _ _ _ _ _ _ l.invariant.2 (left-more _ _ _ h is) put.ensures,
     )
 
 pub returns : goal.returns
 returns c =
     let l = c.loop-i in
-    going_done _ _ _ _ _ _ _ l.invariant.2 (left-done _ _ l.i (omega arith))
+    going_done _ _ _ _ _ _ _ l.invariant.2 (left-done _ l.i (omega arith))

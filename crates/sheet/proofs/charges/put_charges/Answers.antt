@@ -12,16 +12,16 @@ pub put_charge-tally-requires : goal.put_charge-tally-requires
 put_charge-tally-requires c =
     let l = c.loop-i in
     let h = c.loop-i-test.true in
-    going_ready _ _ _ _ _ _ _ _ _ _ _ l.invariant.0 c.requires l.invariant.1 (charges_more c.args.charges l.i h)
+    going_ready _ _ _ _ _ _ _ _ _ _ _ l.invariant.0 c.requires l.invariant.1 (charges_more c.args.charges.now l.i h)
 
 pub loop-i-preserved : goal.loop-i-preserved
 loop-i-preserved c =
     let l = c.loop-i in
     let h = c.loop-i-test.true in
     let put = c.put_charge-tally in
-    (put.auto.buffer ∙ l.invariant.0, going_next _ _ _ _ _ _ _ _ _ _ _ l.invariant.1 (charges_more c.args.charges l.i h) put.ensures)
+    (put.auto.buffer ∙ l.invariant.0, going_next _ _ _ _ _ _ _ _ _ _ _ l.invariant.1 (charges_more c.args.charges.now l.i h) put.ensures)
 
 pub returns : goal.returns
 returns c =
     let l = c.loop-i in
-    going_done _ _ _ _ _ _ _ l.invariant.1 (charges_done c.args.charges l.i (omega arith))
+    going_done _ _ _ _ _ _ _ l.invariant.1 (charges_done c.args.charges.now l.i (omega arith))

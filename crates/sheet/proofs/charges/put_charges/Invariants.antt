@@ -1,6 +1,5 @@
 -- `sheet::charges::put_charges` meets its contract: the lines from place i on are left. Assumes nothing.
 use mathlib.Core.Path.{◌≡◌}
-use Prim.Native.Nat.{◌-◌, ◌≤◌}
 use lib.ListN.{length}
 use Rattle.sheet.specs.Written.{Going}
 use Rattle.sheet.specs.BookLines.{entry_lines, charges_left}

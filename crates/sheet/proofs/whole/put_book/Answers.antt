@@ -16,7 +16,7 @@ put_one-day-requires c =
 pub put_open-open-requires : goal.put_open-open-requires
 put_open-open-requires c =
     let day = c.put_one-day in
-    (c.requires.0, ready_second _ _ _ _ _ _ _ _ c.requires.1 (book_lines_lem c.args.k) _ _ day.ensures _ day.auto.buffer)
+    ready_second _ _ _ _ _ _ _ _ c.requires.1 (book_lines_lem c.args.k) _ _ day.ensures _ day.auto.buffer
 
 pub put_charges-requires : goal.put_charges-requires
 put_charges-requires c =

@@ -8,4 +8,4 @@ put_lines-tally-requires c = (c.requires.0, λ _. c.requires.1)
 pub returns : goal.returns
 returns c =
     let e = c.put_lines-tally.ensures in
-    (width_is _ _ _ _ _ _ _ e, bytes_are _ _ _ _ _ _ c.requires.1 e)
+    (width_is _ _ _ _ _ _ e, bytes_are _ _ _ _ _ c.requires.1 e)

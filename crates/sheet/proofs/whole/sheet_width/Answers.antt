@@ -8,4 +8,4 @@ pub put_lines-tally-requires : goal.put_lines-tally-requires
 put_lines-tally-requires c = (c.requires, λ e. true_false e refl)
 
 pub returns : goal.returns
-returns c = width_is _ _ _ _ _ _ _ c.put_lines-tally.ensures
+returns c = width_is _ _ _ _ _ _ c.put_lines-tally.ensures
