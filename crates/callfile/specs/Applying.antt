@@ -1,5 +1,5 @@
 -- What stands at a place is done by its call: the answer and the bytes of the record, from those of the call.
-use Rattle.std.specs.Prelude.{◌≡◌, refl, true, false, ◌&&◌, List, [], ℕ, ◌+◌, ◌≤◌, eqb, length, drop, pos, Result}
+use Rattle.std.specs.Prelude.{◌≡◌, refl, true, false, ◌&&◌, List, [], ℕ, ◌+◌, ◌-◌, ◌≤◌, eqb, length, take, drop, pos, Result}
 use Rattle.std.proofs.Common.{sym, ap, subst, ◌∙◌, arith, length-take, length-drop, eq-eqb, eqb-true}
 use Rattle.units.specs.Units.{shares}
 use Rattle.units.specs.declared.Shares.{Shares}
@@ -57,22 +57,27 @@ module _ (book file : List ℕ) (place : ℕ) (r : Ready book file place) where
   taken : file_refused book file ≡ false
   taken = not_refused book file place r.short r.long
 
+  readable : is_unreadable (record_at file place) ≡ false → place + 2 ≤ length file
+  readable n = omega (arith, body_there file place n)
+
   pub none_done : unreadable ≡ record_at file place → Done book file place (Unreadable place) book
   none_done e = none_there book file place taken r.ours r.there (sym e)
 
   pub call_done : (c : Call) (n m : ℕ) (a : RecordAnswer) (new : List ℕ) → call c ≡ record_at file place → figure (book_of book) c ≡ 0
-      → (n ≡ answer_bytes book c) × (new ≡ after_bytes book c) → m ≡ next → a ≡ Answered n (shares (pos 0)) m → Done book file place a new
+      → (n ≡ answer_bytes book c) × (new ≡ after_bytes book c) → (place + 2 ≤ length file → m ≡ next) → a ≡ Answered n (shares (pos 0)) m → Done book file place a new
+  unfolding is_unreadable
   call_done c n m a new e z d em ea =
       rw ea
       (call_there book file place taken r.ours r.there c n (shares (pos 0)) m new (sym e) d.0
-      (ap (λ (k : ℕ). shares (pos k)) (sym (no_figure book c z))) em d.1)
+      (ap (λ (k : ℕ). shares (pos k)) (sym (no_figure book c z))) (em (readable (ap is_unreadable (sym e)))) d.1)
 
   pub run_done : (s m : ℕ) (t : Result Shares ℕ) (a : RecordAnswer) (new : List ℕ) → call (run s) ≡ record_at file place → t ≡ run_answer book s
-      → new ≡ after_bytes book (run s) → m ≡ next → a ≡ ran_as t m → Done book file place a new
+      → new ≡ after_bytes book (run s) → (place + 2 ≤ length file → m ≡ next) → a ≡ ran_as t m → Done book file place a new
+  unfolding is_unreadable
   run_done s m t a new e et f em ea =
       rw (ea, et, ran_is book s m)
       (call_there book file place taken r.ours r.there (run s) (answer_bytes book (run s))
-      (shares (pos (figure_bytes book (run s)))) m new (sym e) refl refl em f)
+      (shares (pos (figure_bytes book (run s)))) m new (sym e) refl refl (em (readable (ap is_unreadable (sym e)))) f)
 
   module _ (e : create (codes_at place file) ≡ record_at file place) where
     pub codes_there : place + 35 ≤ length file
@@ -90,9 +95,18 @@ module _ (book file : List ℕ) (place : ℕ) (r : Ready book file place) where
     unfolding create_bytes
     created = cond_yes _ _ (eq-eqb _ 0 accepted)
 
-    pub create_done : (codes : List ℕ) → codes ≡ codes_at place file → (n m : ℕ) (a : RecordAnswer) (new : List ℕ)
-        → (n ≡ create_answer book codes) × (new ≡ create_bytes book codes) → m ≡ next → a ≡ Answered n (shares (pos 0)) m → Done book file place a new
-    create_done codes ec n m a new d em ea =
+    pub create_answered : (codes : List ℕ) → codes ≡ codes_at place file → (n m : ℕ) (a : RecordAnswer) (new : List ℕ)
+        → (n ≡ create_answer book codes) × (new ≡ create_bytes book codes) → (place + 2 ≤ length file → m ≡ next) → a ≡ Answered n (shares (pos 0)) m
+        → Done book file place a new
+    unfolding is_unreadable
+    create_answered codes ec n m a new d em ea =
         rw (ea, d.0 ∙ ap (create_answer book) ec ∙ accepted)
-        (create_there book file place taken r.ours r.there (codes_at place file) (shares (pos 0)) m new (sym e) refl em
+        (create_there book file place taken r.ours r.there (codes_at place file) (shares (pos 0)) m new (sym e) refl (em (readable (ap is_unreadable (sym e))))
         (d.1 ∙ ap (create_bytes book) ec ∙ created))
+
+    -- a create that stands first is accepted
+    pub create_done : (m : ℕ) (a : RecordAnswer) (new : List ℕ) → (place + 2 ≤ length file → m ≡ next) → a ≡ Answered 0 (shares (pos 0)) m
+        → new ≡ create_bytes book (take (place + 35 - (place + 3)) (drop (place + 3) file)) → Done book file place a new
+    create_done m a new em ea f =
+        let g : place + 35 - (place + 3) ≡ 32 = omega arith in
+        create_answered (codes_at place file) refl 0 m a new (sym accepted, f ∙ ap (λ (n : ℕ). create_bytes book (take n (drop (place + 3) file))) g) em ea

@@ -1,5 +1,5 @@
 -- The answer of marks by the four sums, and that it is the rules' once the tests before 16 are passed.
-use Rattle.std.specs.Prelude.{◌≡◌, refl, true, false, cond, ◌||◌, List, [], ◌∷◌, ℕ, ◌-◌, ◌≤◌, length, pos, Some, None, Result, Ok, Err}
+use Rattle.std.specs.Prelude.{◌≡◌, refl, true, false, cond, ◌||◌, List, [], ◌∷◌, ℕ, ◌-◌, ◌≤◌, length, get_or, pos, Some, None, Result, Ok, Err}
 use Rattle.std.proofs.Common.{sym, ap, ◌∙◌, arith, ne_eqb, ltb-true, ltb-false}
 use Rattle.std.proofs.Math.Bool.{or-true}
 use Rattle.std.proofs.lemmas.Option.{none-some}
@@ -32,13 +32,19 @@ total_is n x e =
 
 -- ── the answer by the sums ──
 
+abbrev pub amount : List Mils → ℕ → Mils
+amount sums c = get_or sums c (mils (pos 0))
+
+abbrev pub amounts : List Mils → List Mils
+amounts sums = amount sums 0 ∷ amount sums 1 ∷ amount sums 2 ∷ amount sums 3 ∷ []
+
 unfoldable pub due_with : List Mils → ℕ → ℕ → Marks
-due_with sums up down = record { due = mils (pos (down - up)); sums = sums }
+due_with sums up down = record { due = mils (pos (down - up)); sums = amounts sums }
 
 pub due_is : (sums : List Mils) (up down n : ℕ) (due : Mils) → mils_of due ≡ pos n → n ≡ down - up
-    → record { due = due; sums = sums } ≡ due_with sums up down
+    → record { due = due; sums = amounts sums } ≡ due_with sums up down
 unfolding due_with
-due_is sums up down n due e f = ap (λ (m : Mils). record { due = m; sums = sums }) (ap mils (e ∙ ap pos f))
+due_is sums up down n due e f = ap (λ (m : Mils). record { due = m; sums = amounts sums }) (ap mils (e ∙ ap pos f))
 
 unfoldable pub answer_of : List Mils → List ℕ → List ℕ → Result Marks ℕ
 answer_of sums rates haircuts =
@@ -71,7 +77,7 @@ module _ (sums : List Mils) (rates haircuts : List ℕ) where
 
 -- the four sums
 pub four_sums : (sums : List Mils) → length sums ≡ 4
-    → sums ≡ mils (amount_at sums 0) ∷ mils (amount_at sums 1) ∷ mils (amount_at sums 2) ∷ mils (amount_at sums 3) ∷ []
+    → sums ≡ amounts sums
 four_sums [] h = absurd (omega arith)
 four_sums (a ∷ []) h = absurd (omega arith)
 four_sums (a ∷ b ∷ []) h = absurd (omega arith)
@@ -95,7 +101,7 @@ module _ (k : Book) (a : ℕ) (t : Terms) where
     unfolding marks_sound book_tests first
     refused_unpriced e = rw (number_rest, e)
 
-    module _ (priced : any (lacks_price t) (marked_of k a) ≡ false) (sums : List Mils) (long : length sums ≡ 4) (are : (c : ℕ) → amount_at sums c ≡ sum_of k t (marked_of k a) c) where
+    module _ (priced : any (lacks_price t) (marked_of k a) ≡ false) (sums : List Mils) (are : (c : ℕ) → amount_at sums c ≡ sum_of k t (marked_of k a) c) where
       favourable_is : favourable_sum sums t.rates t.haircuts ≡ favourable_total k t (marked_of k a)
       unfolding favourable_sum favourable_total total every_currency from rate_of haircut_of
       favourable_is = rw (are 0, are 1, are 2, are 3)
@@ -104,12 +110,9 @@ module _ (k : Book) (a : ℕ) (t : Terms) where
       unfolding unfavourable_sum unfavourable_total total every_currency from rate_of haircut_of
       unfavourable_is = rw (are 0, are 1, are 2, are 3)
 
-      sums_are : sums ≡ mils (sum_of k t (marked_of k a) 0) ∷ mils (sum_of k t (marked_of k a) 1) ∷ mils (sum_of k t (marked_of k a) 2) ∷ mils (sum_of k t (marked_of k a) 3) ∷ []
-      sums_are = four_sums sums long ∙ rw (are 0, are 1, are 2, are 3)
-
       answer_is : answer_of sums t.rates t.haircuts ≡ cond (passes_limit k t (marked_of k a)) (Err 16) (Ok (due_and_sums k t (marked_of k a)))
       unfolding answer_of passes_limit due_and_sums due_with
-      answer_is = rw (favourable_is, unfavourable_is, sums_are)
+      answer_is = rw (favourable_is, unfavourable_is, ap mils (are 0), ap mils (are 1), ap mils (are 2), ap mils (are 3))
 
       pub answer_right : answer_of sums t.rates t.haircuts ≡ marks_sound k a t
       unfolding marks_sound book_tests first

@@ -32,7 +32,8 @@ fn sum_of(a: Option<u64>, b: Option<u64>) -> Option<u64>
     capped_sum(Amount(a?), Amount(b?))
 }
 
-// Which sums a total is of.
+// Which sums a total is of. (A function as a parameter would say no more than its own promise of the total; with the side as a value both
+// promises are one definition, by cases.)
 #[derive(Clone, Copy)]
 pub enum Side {
     Favourable,

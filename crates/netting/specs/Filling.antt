@@ -21,7 +21,7 @@ use Rattle.laws.specs.Blanks.{behind_records, records_few}
 use Rattle.netting_account.specs.Named.{Apart, apart_none}
 use Rattle.netting.specs.Pairs.{pair_net, nets_to, nets_to_none, nets_to_more, nets_to_same, nets_to_fewer, pair_of, nets_pairs}
 
--- what the walk gives: how many records open positions and nets make, one too many where they do not fit; where they fit, the table with both
+-- the nets fit, and this is the table with the open positions and them, and how many records that makes
 abbrev pub WithNets : Book → ℕ → List Position → Type 0
 WithNets k count rows = (open_plus_nets k ≤ most_records) × (count ≡ open_plus_nets k) × (rows ≡ (rolling k).positions)
 

@@ -48,8 +48,7 @@ returns c =
     let t = terms lent.tables.intraday.now lent.tables.closing.now lent.rates.now lent.haircuts.now in
     let same = c.in_ok-terms.ensures.lent in
     let sums = c.sums_of-sums.result.sums in
-    let long : length sums ≡ 4 = search rules in
     c.answer_of.ensures
     ∙ answer_right k a t (same_fine a t _ same c.in_ok-terms.ensures.number) (sym (c.has_unpriced.ensures ∙ lacks_priced t (marked_of k a)) ∙ c.if-has_unpriced.false)
-    sums long (λ x. c.sums_of-sums.ensures x ∙ sum_priced k t (marked_of k a) x)
+    sums (λ x. c.sums_of-sums.ensures x ∙ sum_priced k t (marked_of k a) x)
     ∙ ap (marks_sound k a) same
