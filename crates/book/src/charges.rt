@@ -14,7 +14,7 @@ use crate::rows::Row;
 use crate::words::word;
 use crate::zeros::put_zeros;
 use fields::put;
-use units::Mils;
+use units::{Counted, Mils};
 
 // A row is the amount's 64 bits in 8 bytes.
 impl Row for Mils {

@@ -11,7 +11,7 @@ use crate::rows::{Row, rows_at};
 use crate::words::word;
 use fields::{get, put};
 use rules::Position;
-use units::{Mils, Shares};
+use units::{Counted, Mils, Shares};
 
 // A row has its number in 4 bytes, its shares and its money in 8 each.
 impl Row for Position {

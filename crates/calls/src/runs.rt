@@ -10,7 +10,7 @@ use rules::Refusal;
 use settling::{may_run, with_run};
 use settling_counts::deliverable_of;
 use sound_tables::bad_security;
-use units::{Quantity, Shares};
+use units::{Counted, Quantity, Shares};
 
 pub fn run(book: &mut BookBytes, security: u8) -> Result<Shares, Refusal>
     requires { not_sound book.old ≡ false }

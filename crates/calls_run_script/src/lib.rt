@@ -3,7 +3,7 @@
 
 use rules::Trade;
 use std::io;
-use units::{Price, Shares};
+use units::{Counted, Price, Shares};
 
 fn print_text(rt: &impl Print, text: &[u8]) -> io::Result<()> {
     rt.write_all(text)

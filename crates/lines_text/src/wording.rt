@@ -6,7 +6,7 @@ ghost use Rattle.lines_text.specs.LineWords.{figure_of, worded, words_of};
 
 use crate::{Figure, Words};
 use rules::Line;
-use units::{Mils, Shares};
+use units::{Counted, Mils, Shares};
 
 fn plain(n: u64) -> Figure
     ensures { result ≡ figure_of (pos n) }

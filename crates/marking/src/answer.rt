@@ -15,7 +15,7 @@ use crate::unpriced::has_unpriced;
 use book::BookBytes;
 use marking_sums::{PerCurrency, Side, converted_total, sums_of};
 use rules::{Marks, Refusal};
-use units::{Amount, Mils};
+use units::{Amount, Counted, Mils};
 
 // What `down` has more than `up`, or 0.
 fn excess(up: Amount, down: Amount) -> Amount

@@ -11,6 +11,7 @@ use book::{BookBytes, position_at, records_at};
 use marking_prices::{PriceTables, price_of};
 use rules::Position;
 use sound_positions::{account_of, security_of};
+use units::Counted;
 
 fn lacks_price(p: Position, tables: PriceTables) -> bool
     ensures { result ≡ lacks_price (priced tables.entry.intraday.now tables.entry.closing.now) p }

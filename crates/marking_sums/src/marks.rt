@@ -15,7 +15,7 @@ use book::{BookBytes, codes_of, position_at, records_at};
 use marking_prices::{PriceTables, price_of};
 use rules::Position;
 use sound_positions::{account_of, security_of};
-use units::{Mils, Whole};
+use units::{Counted, Mils, Whole};
 
 fn mark(p: Position, tables: PriceTables) -> Mils
     requires { Fair tables.intraday.now tables.closing.now × (sizes_fit p ≡ true) }

@@ -5,7 +5,7 @@
 
 use rules::{Marks, Refusal, Trade};
 use std::io;
-use units::{Mils, Price};
+use units::{Counted, Mils, Price};
 
 fn print_text(rt: &impl Print, text: &[u8]) -> io::Result<()> {
     rt.write_all(text)

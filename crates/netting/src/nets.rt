@@ -9,6 +9,7 @@ use crate::Netted;
 use book::{BookBytes, day_at, entries_at, positions_of, records_at, trades_of};
 use netting_account::{account_nets, named_accounts};
 use rules::{Position, Refusal};
+use units::Counted;
 
 // "A net of 0 shares with money is a position; 0 and 0 is none."
 #[tactic(auto, unfolding(rules::specs::Sound::is_position, rules::specs::Book::is_zero))]

@@ -7,7 +7,7 @@ ghost use Rattle.laws.specs.NetLaws.{has_part, in_limits};
 ghost use Rattle.netting_account.specs.OneTrade.{plus_trade, plus_bought, less_sold, with_trade, Within};
 
 use rules::{Position, Trade};
-use units::{Quantity, Shares};
+use units::{Counted, Quantity, Shares};
 
 // A net with the shares and the amount of a trade; what was sold counts below zero.
 fn plus_trade(p: Position, t: Trade, sold: bool) -> Position

@@ -5,7 +5,7 @@
 mod vectors;
 
 use std::io;
-use units::{Amount, Mils, Quantity, Shares};
+use units::{Amount, Counted, Mils, Quantity, Shares};
 
 // A position as far as parts go.
 #[derive(Clone, Copy)]

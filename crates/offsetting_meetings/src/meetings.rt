@@ -10,7 +10,7 @@ ghost use Rattle.offsetting_meetings.specs.Meeting.{MeetAsks, meeting_of};
 
 use parts::{rest_of, with_part};
 use rules::Position;
-use units::{Mils, Shares};
+use units::{Counted, Mils, Shares};
 
 // The two records after they met, and the charge of their account in the currency of their security.
 #[derive(Clone, Copy)]

@@ -7,7 +7,7 @@ ghost use Rattle.rules.specs.Book.{quantity_of, money_of};
 ghost use Rattle.rules.specs.Parts.{part_money, without};
 
 use rules::Position;
-use units::{Mils, Shares};
+use units::{Counted, Mils, Shares};
 
 // The money of k of a record's shares.
 fn part_of(p: Position, k: Shares) -> Mils

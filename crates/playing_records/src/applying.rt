@@ -14,7 +14,7 @@ use calls::{amend, deposit, enter, exclude, run, withdraw};
 use calls_rolls::roll;
 use fields::put;
 use rules::Refusal;
-use units::{Quantity, Shares};
+use units::{Counted, Quantity, Shares};
 
 // The answer of a record: that its call is accepted, with the shares that a run moved (0 of any other call); its call's refusal; or that
 // it is unreadable, with its place.

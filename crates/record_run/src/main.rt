@@ -6,7 +6,7 @@
 use rules::{Line, RecordAnswer, Refusal, Tally, number_of};
 use std::io;
 use std::io::{ErrorKind, Read};
-use units::{Mils, Whole};
+use units::{Counted, Mils, Whole};
 
 fn print_text(rt: &impl Print, text: &[u8]) -> io::Result<()> {
     rt.write_all(text)

@@ -14,7 +14,7 @@ use book::{
 use parts::{place_of, rest_of, with_part};
 use rules::Position;
 use settling_counts::holding_place;
-use units::{Quantity, Shares};
+use units::{Counted, Quantity, Shares};
 
 // k shares go from one holding to another.
 fn move_shares(b: &mut BookBytes, from: usize, to: usize, k: Quantity)

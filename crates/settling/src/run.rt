@@ -14,7 +14,7 @@ use book::BookBytes;
 use parts::pack;
 use rules::Refusal;
 use settling_counts::wanted_of;
-use units::{Quantity, Shares};
+use units::{Counted, Quantity, Shares};
 
 // Whether a run of a listed security is taken, of which `gives` shares can be given. 13 is looked at though it is never given
 // on a sound book: there the receivers want what the givers owe.

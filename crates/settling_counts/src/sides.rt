@@ -8,7 +8,7 @@ ghost use Rattle.laws.specs.Walk.{is_due_in, owes, wants};
 use book::{BookBytes, holding_at};
 use rules::Position;
 use sound_positions::{account_of, is_due, security_of};
-use units::Quantity;
+use units::{Counted, Quantity};
 
 fn is_due_in(day: u16, security: u8, p: Position) -> bool
     ensures { result ≡ is_due_in day security p }

@@ -5,7 +5,7 @@ ghost use Rattle.sheet.specs.BookLines.{charge_entry, entry_lines};
 
 use crate::one::put_one;
 use rules::{Line, Tally};
-use units::Mils;
+use units::{Counted, Mils};
 
 // The line of one charge, if it is not zero.
 fn put_charge(

@@ -9,7 +9,7 @@ ghost use Rattle.sound_positions.specs.Summing.{Room};
 ghost use Rattle.sound_positions.specs.Balance.{zero_at};
 
 use rules::Position;
-use units::Shares;
+use units::{Counted, Shares};
 
 // A record's quantity, added to the sum of its security.
 pub(crate) fn with_quantity(sum: Shares, p: Position) -> Shares

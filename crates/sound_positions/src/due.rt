@@ -4,6 +4,7 @@ ghost use Rattle.rules.specs.Book.{due_of};
 ghost use Rattle.rules.specs.Sound.{due_fits, due_nonzero, is_due};
 
 use rules::Position;
+use units::Counted;
 
 // Due on this day or before: the number is below the numbers of the next day. The number is compared and not divided, so
 // that it is read in one load.

@@ -8,6 +8,7 @@ ghost use Rattle.sound_positions.specs.Each.{room_fits};
 
 use book::{BookBytes, position_at, records_at};
 use rules::Position;
+use units::Counted;
 
 #[tactic(auto, unfolding(rules::specs::Sound::is_blank, rules::specs::Book::is_zero))]
 fn is_blank(p: Position) -> bool

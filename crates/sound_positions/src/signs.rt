@@ -7,6 +7,7 @@ ghost use Rattle.sound_positions.specs.OneSign.{place_of, places, sign_of, fits_
 use crate::due::is_due;
 use crate::number::{account_of, security_of};
 use rules::Position;
+use units::Counted;
 
 // The place of an account and a security in a table of all pairs.
 fn place_of(p: Position) -> usize

@@ -3,6 +3,7 @@ ghost use Rattle.std.specs.Prelude.{◌≡◌};
 ghost use Rattle.rules.specs.Sound.{sizes_fit};
 
 use rules::Position;
+use units::Counted;
 
 #[tactic(auto, unfolding(rules::specs::Sound::sizes_fit, rules::specs::Sound::is_position, rules::specs::Book::is_zero))]
 pub(crate) fn size_fits(p: Position) -> bool

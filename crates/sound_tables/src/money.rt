@@ -11,7 +11,7 @@ ghost use Rattle.sound_tables.specs.Stakes.{MoneyAsks, place_of, size_of, Sums, 
 use book::{BookBytes, charge_at, code_at, position_at, records_at};
 use rules::Position;
 use sound_positions::{account_of, security_of};
-use units::{Amount, Mils};
+use units::{Amount, Counted, Mils};
 
 // Where the money of a position counts: account * 4 + currency.
 #[tactic(auto, unfolding(rules::specs::Book::currency_of))]

@@ -2,9 +2,12 @@
 // so that shares handed over where money is due do not compile. What they count is a `Whole`, a signed number.
 #![tactic(auto)]
 
+mod counted;
 mod money;
 mod number;
 mod stock;
+
+pub use counted::Counted;
 
 // A signed whole number.
 #[derive(Clone, Copy)]

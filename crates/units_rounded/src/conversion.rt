@@ -7,7 +7,7 @@ ghost use Rattle.units.specs.Units.{mils_of};
 ghost use Rattle.units_rounded.specs.Conversion.{favourable_of, unfavourable_of};
 ghost use Rattle.units_rounded.specs.ConversionLaws.{Terms};
 
-use units::Mils;
+use units::{Counted, Mils};
 
 pub fn favourable(sum: Mils, rate: u64, haircut: u64) -> Option<u64>
     requires { Terms rate haircut }

@@ -4,7 +4,7 @@ ghost use Rattle.units.specs.Units.{shares_of, mils_of};
 ghost use Rattle.units_rounded.specs.Part.{part_of};
 ghost use Rattle.units_rounded.specs.PartLaws.{PartAsks, PortionAsks};
 
-use units::{Amount, Mils, Quantity, Shares};
+use units::{Amount, Counted, Mils, Quantity, Shares};
 
 // n * k / d rounded down, for the money n of d shares and a k that is at most d: exact, though the product may pass
 // 64 bits.

@@ -9,6 +9,7 @@ use callfile::play_record;
 use playing::play;
 use rules::{RecordAnswer, number_of};
 use sheets::sheet;
+use units::Counted;
 
 #[unsafe(no_mangle)]
 pub extern "C" fn wick_record(

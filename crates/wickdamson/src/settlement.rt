@@ -6,6 +6,7 @@ ghost use Rattle.wickdamson.specs.Fields.{byte_of};
 
 use crate::wide::byte_of;
 use rules::number_of;
+use units::Counted;
 
 #[unsafe(no_mangle)]
 pub extern "C" fn wick_roll(book: &mut [u8]) -> u8
