@@ -1,4 +1,4 @@
-// The currency codes: a byte for each of the 32 securities.
+// The currency codes: a byte for each of the 32 securities. (A byte, and no enum with "unlisted": bytes that are no sound book may hold any.)
 ghost use Rattle.std.specs.Prelude.{◌≡◌, ◌<◌, refl, get_or};
 ghost use Rattle.fields.specs.Codec.{number};
 ghost use Rattle.fields.specs.FieldLaws.{length_digits};

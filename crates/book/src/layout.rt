@@ -1,5 +1,6 @@
 // Where each part of the book begins, and how many bytes a row of each table has (docs/BOOK.md). Every offset of the
 // crate is one of these; what stands within a row is said where the row is read and written.
+
 // How many bytes a book has.
 pub const BOOK_BYTES: usize = 42_278;
 

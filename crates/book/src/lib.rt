@@ -1,5 +1,6 @@
 // The book in lent bytes (document 01: the layout of docs/BOOK.md). A call reads and writes single parts where they stand,
-// and leaves the other bytes alone. Each table has a module, with what reads it and what writes it.
+// and leaves the other bytes alone. Each table has a module, which says how a row of it stands in its bytes;
+// `rows` reads and writes a whole table.
 #![tactic(auto)]
 
 mod charges;

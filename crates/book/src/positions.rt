@@ -26,9 +26,9 @@ impl Row for Position {
         let quantity = Shares::from_bits(word(b, at + 4));
         let money = Mils::from_bits(word(b, at + 12));
         Position {
-            number: number,
+            number,
             quantity: quantity,
-            money: money,
+            money,
         }
     }
 

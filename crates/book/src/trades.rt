@@ -31,10 +31,10 @@ impl Row for Trade {
         let quantity = get(b, at + 5, 4) as u32;
         let price = get(b, at + 9, 4) as u32;
         Trade {
-            number: number,
-            buyer: buyer,
-            seller: seller,
-            security: security,
+            number,
+            buyer,
+            seller,
+            security,
             quantity: quantity,
             price: Price(price),
         }

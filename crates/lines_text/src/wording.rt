@@ -23,7 +23,7 @@ fn of_shares(q: Shares) -> Figure
     let minus = q.is_negative();
     let size = q.size();
     Figure {
-        minus: minus,
+        minus,
         size: size.0,
     }
 }
@@ -34,7 +34,7 @@ fn of_money(m: Mils) -> Figure
     let minus = m.is_negative();
     let size = m.size();
     Figure {
-        minus: minus,
+        minus,
         size: size.0,
     }
 }
@@ -43,9 +43,9 @@ fn made(head: u8, count: usize, figures: [Figure; 5]) -> Words
     ensures { result ≡ worded head count figures }
 {
     Words {
-        head: head,
-        count: count,
-        figures: figures,
+        head,
+        count,
+        figures,
     }
 }
 

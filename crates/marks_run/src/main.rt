@@ -58,10 +58,10 @@ fn enter(
     price: u32,
 ) {
     let trade = Trade {
-        number: number,
-        buyer: buyer,
-        seller: seller,
-        security: security,
+        number,
+        buyer,
+        seller,
+        security,
         quantity: quantity,
         price: Price(price),
     };

@@ -25,7 +25,7 @@ pub struct Trade {
     pub price: Price,
 }
 
-// The book: how many records the position table has, and the table; how many numbers today's list has, and the list.
+// The book, in fixed memory (no heap): how many records the position table has, and the table; how many numbers today's list has, and the list.
 // Holdings stand at account * 32 + security, charges at account * 4 + currency.
 #[derive(Clone, Copy)]
 pub struct Book {
@@ -109,6 +109,7 @@ pub struct Marks {
 
 // The answer of one record of a call file: the call's own answer, the shares moved if it was a run, and the place of
 // the next record; or the place where an unreadable record begins; or that the file ends here; or the file's refusal.
+// (It holds numbers: the definitions of its number, figure and next place are document 01's, and theorems speak of them.)
 #[derive(Clone, Copy)]
 pub enum RecordAnswer {
     Answered(u8, Shares, u32),
@@ -117,7 +118,7 @@ pub enum RecordAnswer {
     FileRefused(u8),
 }
 
-// A line of the sheet.
+// A line of the sheet. (The number of a refusal is any that a caller of the line writer names, so that it is no `Refusal`.)
 #[derive(Clone, Copy)]
 pub enum Line {
     Refusal(u32, u8),

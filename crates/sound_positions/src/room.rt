@@ -10,6 +10,7 @@ use book::{BookBytes, position_at, records_at};
 use rules::Position;
 use units::Counted;
 
+// (Field by field, as the definition is: a comparison with a row of zeros would need an equality of each type to say the same.)
 #[tactic(auto, unfolding(rules::specs::Sound::is_blank, rules::specs::Book::is_zero))]
 fn is_blank(p: Position) -> bool
     ensures { result ≡ is_blank p }

@@ -25,6 +25,7 @@ fn valid_trade(codes: [u8; 32], t: Trade) -> bool
         || same_account(t))
 }
 
+// (Field by field, as the definition is: the number of a trade is not among them.)
 #[tactic(auto, unfolding(rules::specs::Sound::zero_fields))]
 fn zero_fields(t: Trade) -> bool
     ensures { result ≡ zero_fields t }

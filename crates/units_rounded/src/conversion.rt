@@ -1,6 +1,6 @@
 // What a sum of marks counts in the base currency (document 01, "Marks"). The haircut is taken before the
 // rate: a favourable sum with the whole haircut counts 0, however large it is. `None` says that the count passes
-// 9*10^18.
+// 9*10^18. (Two functions: their terms, their rounding and their sign all differ, so that one would have to take each apart again.)
 ghost use Rattle.std.specs.Prelude.{◌≡◌};
 ghost use Rattle.exact.specs.Rounding.{capped};
 ghost use Rattle.units.specs.Units.{mils_of};

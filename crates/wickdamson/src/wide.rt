@@ -22,7 +22,7 @@ pub fn number_of(n: u32) -> u16
     n as u16
 }
 
-// whether one of two fields of a line is above 255
+// Whether one of two fields of a line is above 255.
 pub fn past_byte(a: u32, b: u32) -> bool
     ensures { result ≡ (above 255 a || above 255 b) }
 {
