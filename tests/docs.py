@@ -65,8 +65,8 @@ def check_edits(where, cell, crates):
             missing.append(f"{where}: edit {name} in {' or '.join(crates)}")
 
 
-# PORT.md quotes what was.
-for doc in [doc for doc in sorted(ROOT.glob("docs/*.md")) if doc.name != "PORT.md"] + [ROOT / "README.md"]:
+# PORT.md and DESIGN-PASS.md quote what was.
+for doc in [doc for doc in sorted(ROOT.glob("docs/*.md")) if doc.name not in ("PORT.md", "DESIGN-PASS.md")] + [ROOT / "README.md"]:
     crates, edits = [], False
     for number, line in enumerate(doc.read_text().splitlines(), 1):
         where, cells = f"{doc.name}:{number}", re.split(r"(?<!\\)\|", line)
