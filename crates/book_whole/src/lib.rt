@@ -29,8 +29,8 @@ pub fn load(b: &BookBytes) -> Book
 }
 
 // The bytes that a book is: every byte is written, nothing of what stood there before is left.
-pub fn store(k: Book, b: &mut BookBytes)
-    ensures { b.new ≡ bytes_of k }
+pub fn store(k: &Book, b: &mut BookBytes)
+    ensures { b.new ≡ bytes_of k.now }
 {
     put(b, DAY, 2, k.day as u64);
     put_rows(&k.currency, b, CODES);

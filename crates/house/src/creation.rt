@@ -50,6 +50,6 @@ pub fn create(book: &mut [u8], codes: &[u8]) -> Result<(), Refusal>
     if !codes_fit(table) {
         return Err(Refusal::NoSecurity);
     }
-    store(empty_book(table), room);
+    store(&empty_book(table), room);
     Ok(())
 }

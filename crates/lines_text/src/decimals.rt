@@ -1,5 +1,5 @@
 // Numbers on the sheet (document 01: "Digits come most significant first", no leading zeros): the digits of n are those of
-// n / 10, and then n % 10.
+// n / 10, and then n % 10. (By recursion on the number divided by ten, which is document 01's form for it.)
 ghost use Rattle.std.specs.Prelude.{◌≡◌, ◌+◌, ◌≤◌, length};
 ghost use Rattle.fields.specs.Field.{stored};
 ghost use Rattle.rules.specs.Sheet.{decimal};

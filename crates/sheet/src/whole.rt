@@ -12,9 +12,9 @@ use crate::open::put_open;
 use rules::{Book, Line, Tally};
 
 // DAY, P, C.
-fn put_book(buffer: &mut [u8], write: bool, t: Tally, k: Book) -> Tally
-    requires { (k.records ≤ most_records) × Ready write (length buffer.old) t (book_lines (Some k)) }
-    ensures { Wrote write buffer.old t (book_lines (Some k)) buffer.new result }
+fn put_book(buffer: &mut [u8], write: bool, t: Tally, k: &Book) -> Tally
+    requires { (k.now.records ≤ most_records) × Ready write (length buffer.old) t (book_lines (Some k.now)) }
+    ensures { Wrote write buffer.old t (book_lines (Some k.now)) buffer.new result }
 {
     let day = put_one(buffer, write, t, Line::Day(k.day));
     let records = k.records as usize;
@@ -23,9 +23,9 @@ fn put_book(buffer: &mut [u8], write: bool, t: Tally, k: Book) -> Tally
 }
 
 // The lines of the book, if there is one.
-fn put_existing(buffer: &mut [u8], write: bool, t: Tally, book: Option<Book>) -> Tally
-    requires { ((k : Book) → book ≡ Some k → k.records ≤ most_records) × Ready write (length buffer.old) t (book_lines book) }
-    ensures { Wrote write buffer.old t (book_lines book) buffer.new result }
+fn put_existing(buffer: &mut [u8], write: bool, t: Tally, book: &Option<Book>) -> Tally
+    requires { ((k : Book) → book.now ≡ Some k → k.records ≤ most_records) × Ready write (length buffer.old) t (book_lines book.now) }
+    ensures { Wrote write buffer.old t (book_lines book.now) buffer.new result }
 {
     match book {
         Some(k) => put_book(buffer, write, t, k),
@@ -34,9 +34,9 @@ fn put_existing(buffer: &mut [u8], write: bool, t: Tally, book: Option<Book>) ->
 }
 
 // All lines: written, or only measured.
-fn put_lines(buffer: &mut [u8], write: bool, answers: &[u8], book: Option<Book>) -> Tally
-    requires { Printable answers.now book × (write ≡ true → length (sheet_text answers.now book) ≤ length buffer.old) }
-    ensures { Wrote write buffer.old start (sheet_lines answers.now book) buffer.new result }
+fn put_lines(buffer: &mut [u8], write: bool, answers: &[u8], book: &Option<Book>) -> Tally
+    requires { Printable answers.now book.now × (write ≡ true → length (sheet_text answers.now book.now) ≤ length buffer.old) }
+    ensures { Wrote write buffer.old start (sheet_lines answers.now book.now) buffer.new result }
 {
     let begin = Tally { lines: 0, bytes: 0 };
     let answered = put_answers(buffer, write, begin, answers);
@@ -45,9 +45,9 @@ fn put_lines(buffer: &mut [u8], write: bool, answers: &[u8], book: Option<Book>)
 }
 
 // How long the sheet is.
-pub fn sheet_width(answers: &[u8], book: Option<Book>) -> usize
-    requires { Printable answers.now book }
-    ensures { result ≡ length (sheet_text answers.now book) }
+pub fn sheet_width(answers: &[u8], book: &Option<Book>) -> usize
+    requires { Printable answers.now book.now }
+    ensures { result ≡ length (sheet_text answers.now book.now) }
 {
     let mut none: [u8; 1] = [0];
     let tally = put_lines(&mut none, false, answers, book);
@@ -55,10 +55,10 @@ pub fn sheet_width(answers: &[u8], book: Option<Book>) -> usize
 }
 
 // The sheet in front of the buffer, where it fits; bytes beyond it stay.
-pub fn put_sheet(answers: &[u8], book: Option<Book>, buffer: &mut [u8]) -> usize
-    requires { Printable answers.now book × (length (sheet_text answers.now book) ≤ length buffer.old) }
-    ensures { (result ≡ length (sheet_text answers.now book))
-        × (buffer.new ≡ sheet_text answers.now book ++ drop (length (sheet_text answers.now book)) buffer.old) }
+pub fn put_sheet(answers: &[u8], book: &Option<Book>, buffer: &mut [u8]) -> usize
+    requires { Printable answers.now book.now × (length (sheet_text answers.now book.now) ≤ length buffer.old) }
+    ensures { (result ≡ length (sheet_text answers.now book.now))
+        × (buffer.new ≡ sheet_text answers.now book.now ++ drop (length (sheet_text answers.now book.now)) buffer.old) }
 {
     let tally = put_lines(buffer, true, answers, book);
     tally.bytes as usize

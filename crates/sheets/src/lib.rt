@@ -54,11 +54,11 @@ fn put_played(
     let left = book_in(room, answers);
     // Each answer stands in 9 bytes; what is behind them is room that the file did not need.
     let answers = &answers[..9 * count_answers(file)];
-    if buffer.len() < sheet_width(answers, left) {
+    if buffer.len() < sheet_width(answers, &left) {
         return Err(Refusal::WrongLength);
     }
-    let size = put_sheet(answers, left, buffer);
-    if let Some(k) = left {
+    let size = put_sheet(answers, &left, buffer);
+    if let Some(k) = &left {
         store(k, book);
     }
     Ok(size)

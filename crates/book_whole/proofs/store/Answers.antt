@@ -7,7 +7,7 @@ use Rattle.book_whole.proofs.store.Goals as goal
 pub returns : goal.returns
 returns c =
     -- what comes in as a book has tables of the right length
-    let tables : Tables c.args.k = record {
+    let tables : Tables c.args.k.now = record {
       codes = search rules;
       positions = search (rules, unmapped);
       holdings = search rules;

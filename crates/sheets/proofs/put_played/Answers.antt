@@ -16,7 +16,9 @@ pub slice_bounds-answers-end : goal.slice_bounds-answers-end
 slice_bounds-answers-end c = sym (length-take-le _ _ (front_within _ _ _ c.requires.1 _ c.count_answers.ensures.0))
 
 pub sheet_width-requires : goal.sheet_width-requires
-sheet_width-requires c = room_printable _ _ _ _ _ c.requires.1 (bytes c) c.requires.0 (front c) c.book_in-left.ensures
+sheet_width-requires c =
+    let counted = (goal.at.sheet_width-requires c).After-count_answers in
+    room_printable _ _ _ _ _ c.requires.1 (bytes counted) c.requires.0 (front counted) c.book_in-left.ensures
 
 pub returns-then-buffer-sheet_width : goal.returns-then-buffer-sheet_width
 returns-then-buffer-sheet_width c =

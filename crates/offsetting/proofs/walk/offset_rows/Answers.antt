@@ -34,25 +34,25 @@ with_whole-charge-requires c =
     whole_room (begun (goal.at.with_whole-charge-requires c).After-codes_of-codes) c.newly.i c.newly.b c.newly-test.true c.newly.invariant _ c.position_at-fresh.ensures
     _ c.place_of-at.ensures.0 c.place_of-at.ensures.1 _ c.charge_at.ensures
 
--- ── the inner loop: row j of the older ones ──
+-- ── the inner loop: row j of the older ones, which is the one that is read ──
 
-module _ {b : Book} {older i : ℕ} {fresh : Position} {at : ℕ} (j : ℕ) {w : Walking} {bs : List ℕ} (h : j < older) (c : Inside b older i fresh at (older - j) w bs) where
-  here : older - (older - j) ≡ j
-  here = omega arith
+module _ {b : Book} {older i : ℕ} {fresh : Position} {at : ℕ} (j : ℕ) {w : Walking} {bs : List ℕ} (h : j < older) (c : Inside b older i fresh at (older - j) w bs) {row : ℕ} (same : row ≡ j) where
+  here : older - (older - j) ≡ row
+  here = omega (arith, same)
 
   next : older - (j + 1) ≡ (older - j) - 1
   next = omega arith
 
-  older_below : j < most_records
-  older_below = omega (arith, c.behind, c.below, c.few)
+  older_below : row < most_records
+  older_below = omega (arith, c.behind, c.below, c.few, same)
 
-  may_meet : RowsAsk (book_of bs) i j at
+  may_meet : RowsAsk (book_of bs) i row at
   may_meet = rw here at (meet_asks b older i fresh at (older - j) w bs (omega arith) c)
 
-  passed : (o : Position) → o ≡ get_or (book_of bs).positions j no_position → same_pair fresh o ≡ false → Inside b older i fresh at (older - (j + 1)) w bs
+  passed : (o : Position) → o ≡ get_or (book_of bs).positions row no_position → same_pair fresh o ≡ false → Inside b older i fresh at (older - (j + 1)) w bs
   passed o eo e = rw next (inside_passed b older i fresh at (older - j) w bs (omega arith) c o (rw here eo) e)
 
-  met : (new : List ℕ) → length new ≡ length bs → book_of new ≡ met_in (book_of bs) i j at → Inside b older i fresh at (older - (j + 1)) w new
+  met : (new : List ℕ) → length new ≡ length bs → book_of new ≡ met_in (book_of bs) i row at → Inside b older i fresh at (older - (j + 1)) w new
   met new long e = rw next (inside_met b older i fresh at (older - j) w bs (omega arith) c new long (rw here e))
 
 -- row i is charged, and begins its turn
@@ -65,17 +65,17 @@ entered c =
     _ c.with_whole-charge.ensures _ (c.put_charge.array_long ∙ sym c.newly.invariant.long) c.put_charge.ensures.1
 
 pub position_at-o-requires : goal.position_at-o-requires
-position_at-o-requires c = older_below c.older.j c.older-test.true (c.older.invariant _ (entered (goal.at.position_at-o-requires c).After-put_charge))
+position_at-o-requires c = older_below c.older.j c.older-test.true (c.older.invariant _ (entered (goal.at.position_at-o-requires c).After-put_charge)) (omega arith)
 
 pub meet-requires : goal.meet-requires
-meet-requires c = may_meet c.older.j c.older-test.true (c.older.invariant _ (entered (goal.at.meet-requires c).After-put_charge))
+meet-requires c = may_meet c.older.j c.older-test.true (c.older.invariant _ (entered (goal.at.meet-requires c).After-put_charge)) (omega arith)
 
 pub older-preserved : goal.older-preserved
 older-preserved c =
     λ w start. let inside = c.older.invariant w start in
     elim c.if-same_pair.branch [
-      | then-same_pair x ↦ met c.older.j c.older-test.true inside _ (c.if-same_pair.array_long ∙ sym inside.long) (cc)
-      | else-same_pair x ↦ rw x.b-is (passed c.older.j c.older-test.true inside _ c.position_at-o.ensures (sym c.same_pair.ensures ∙ x.if-same_pair.false))
+      | then-same_pair x ↦ met c.older.j c.older-test.true inside {row = c.older.j} (omega arith) _ (c.if-same_pair.array_long ∙ sym inside.long) (cc)
+      | else-same_pair x ↦ rw x.b-is (passed c.older.j c.older-test.true inside {row = c.older.j} (omega arith) _ c.position_at-o.ensures (sym c.same_pair.ensures ∙ x.if-same_pair.false))
     ]
 
 -- ── the next newly due row, and the end ──

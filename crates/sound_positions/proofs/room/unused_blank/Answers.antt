@@ -15,6 +15,6 @@ pub returns : goal.returns
 returns c =
     let l = (book_of c.args.b.now).positions in
     let n = c.records_at-n.result in
-    all_from_yields_List (λ i. is_blank (get_or l i no_position)) _ _ _ c.all.ensures.ran (YieldsList-from_range n most_records _ refl refl) (λ x b q k. search (rules, tests))
-    ∙ all_rest is_blank l no_position n most_records (positions_long c.args.b.now) (omega arith)
+    all_from_yields_List (λ i. is_blank (get_or l i no_position)) _ _ _ c.all.ensures.ran (YieldsList-from_range n _ _ refl refl) (λ x b q k. search (rules, tests))
+    ∙ all_rest is_blank l no_position n _ (positions_long c.args.b.now ∙ omega (arith, c.requires, c.records_at-n.ensures)) (omega (arith, c.requires, c.records_at-n.ensures))
     ∙ ap (λ (m : ℕ). all is_blank (drop m l)) c.records_at-n.ensures
