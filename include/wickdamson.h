@@ -24,7 +24,7 @@
  *   - What one call is lent must not overlap, except buffers that are both `const`. During the call nobody may write what is
  *     lent as `const`, nor read or write the rest. A call keeps nothing: no memory is allocated, no file opened, no state is
  *     held between calls, and different threads can work on different books at the same time.
- *   - The caller's stack needs room: 1 MiB is enough for every call (wick_sheet takes some 530,000 bytes, the others no
+ *   - The caller's stack needs room: 1 MiB is enough for every call (wick_sheet takes some 551,000 bytes, the others no
  *     more than 200,000). The main thread has that; a thread of a pool, or any thread under musl, may have 128 or 256 KiB and
  *     faults: make it with a larger stack.
  *   - A book is WICK_BOOK_BYTES bytes, which the caller keeps where it likes: in memory, in a file (docs/BOOK.md says

@@ -33,7 +33,7 @@ fn put_existing(buffer: &mut [u8], write: bool, t: Tally, book: &Option<Book>) -
     }
 }
 
-// All lines: written, or only measured.
+// All lines: written, or only measured. (The book is lent: by value it would stand on the stack once more in each of these functions.)
 fn put_lines(buffer: &mut [u8], write: bool, answers: &[u8], book: &Option<Book>) -> Tally
     requires { Printable answers.now book.now × (write ≡ true → length (sheet_text answers.now book.now) ≤ length buffer.old) }
     ensures { Wrote write buffer.old start (sheet_lines answers.now book.now) buffer.new result }
